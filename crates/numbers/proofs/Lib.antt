@@ -1,0 +1,7 @@
+-- The whole-number laws that the proofs of all crates cite; docs/PROVING.md shows how to use each module.
+pub mod Tests
+pub mod Ring
+pub mod Parts
+pub mod Sizes
+pub mod Machine
+pub mod Chain
