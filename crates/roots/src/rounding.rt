@@ -5,7 +5,7 @@ ghost use lib.IntN.{pos, natAbs, _-ℤ_, _*ℤ_};
 ghost use lib.Signed.{_≤ℤ_};
 ghost use Rattle.roots.specs.Round.{divisor, floorDiv, roundEven};
 
-// x where b holds, else y.
+// x where b holds, y otherwise.
 pub fn select(b: bool, x: i64, y: i64) -> i64
     ensures { λ r. ⌜ r ≡ cond b x y ⌝ }
 {
