@@ -3,5 +3,7 @@ pub mod Tests
 pub mod Ring
 pub mod Parts
 pub mod Sizes
+pub mod Equal
 pub mod Machine
 pub mod Chain
+pub mod Tables

@@ -24,6 +24,10 @@ stored-id f = toZ-ofZ f
 pub stored-as : {z y : ℤ} → z ≡ y → SFits w64 y → toZ w64 (ofZ w64 z) ≡ y
 stored-as e f = ap (λ (x : ℤ). toZ w64 (ofZ w64 x)) e ∙ toZ-ofZ f
 
+-- anything said of two such values
+pub stored-both : {A : Type 0} (f : ℤ → ℤ → A) {x y : ℤ} → SFits w64 x → SFits w64 y → f (toZ w64 (ofZ w64 x)) (toZ w64 (ofZ w64 y)) ≡ f x y
+stored-both f p q = λ i. f (toZ-ofZ p i) (toZ-ofZ q i)
+
 -- ---- fits
 
 mag-le-abs : (z : ℤ) → mag z ≤ natAbs z

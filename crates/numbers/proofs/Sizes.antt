@@ -1,12 +1,14 @@
 -- Magnitudes: of a negation, a sum, a difference, a product and a square; their parity.
 use mathlib.Core.Path.{_≡_, refl, ap, _∙_}
-use mathlib.Core.Bool.{cond}
+use mathlib.Core.Bool.{true, cond}
 use Prim.Native.Nat.{ℕ, zero, suc, _+_, _-_, _*_, _%_, _≤_, _<_}
 use native.Mathlib.Omega.{arith}
-use lib.Dec.{ltb, ltb→lt, nltb→le}
+use lib.Dec.{ltb, ltb→lt, nltb→le, leb→le}
 use lib.IntN.{ℤ, pos, negsuc, negℤ, natAbs, subℕ, _+ℤ_, _-ℤ_, _*ℤ_}
-use Rattle.numbers.proofs.Tests.{by-test}
-use Rattle.numbers.proofs.Parts.{parts-add, parts-sub, parts-abs, parts-eq}
+use lib.Signed.{_≤ℤ_, leZ}
+use Rattle.numbers.specs.Whole.{within, between}
+use Rattle.numbers.proofs.Tests.{by-test, holds, and-l, and-r}
+use Rattle.numbers.proofs.Parts.{ints, parts-add, parts-sub, parts-abs, parts-eq, test-le}
 
 abs-subℕ : (a b : ℕ) → natAbs (subℕ a b) ≡ (a - b) + (b - a)
 abs-subℕ a b =
@@ -54,3 +56,13 @@ parity-add a b = omega (arith, parts-add a b, parts-abs (a +ℤ b), parts-abs a,
 
 pub parity-sub : (a b : ℤ) → (natAbs (a -ℤ b) + natAbs a + natAbs b) % 2 ≡ 0
 parity-sub a b = omega (arith, parts-sub a b, parts-abs (a -ℤ b), parts-abs a, parts-abs b)
+
+-- a number between 0 and k, and one within k
+pub between-size : (x : ℤ) (k : ℕ) → between (pos 0) x (pos k) ≡ true → natAbs x ≤ k
+between-size x k e =
+    let low : pos 0 ≤ℤ x = test-le (and-l (leZ (pos 0) x) (leZ x (pos k)) e) in
+    let high : x ≤ℤ pos k = test-le (and-r (leZ (pos 0) x) (leZ x (pos k)) e) in
+    omega (ints, parts-abs x)
+
+pub within-size : (x : ℤ) (k : ℕ) → within x k ≡ true → natAbs x ≤ k
+within-size x k e = leb→le (natAbs x) k (holds e)

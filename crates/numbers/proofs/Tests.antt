@@ -1,6 +1,6 @@
 -- Tests and what they say: a case on a test, and how a flag that is known to be true or false becomes a fact, and back.
 use mathlib.Core.Path.{_≡_, refl, sym, ap, subst, _∙_}
-use mathlib.Core.Bool.{Bool, true, false, not}
+use mathlib.Core.Bool.{Bool, true, false, not, _&&_, _||_}
 use Prim.Native.Nat.{ℕ, _≤_}
 use native.Mathlib.Decide.{decLe}
 use native.Mathlib.Nat.{lt-of-not-le}
@@ -28,6 +28,35 @@ is-false {b = false} t = refl
 
 pub not-both : {b : Bool} → b ≡ true → b ≡ false → ⊥
 not-both e f = subst T (sym e ∙ f) tt
+
+-- ---- tests joined
+
+pub no-true : {A : Type 0} → false ≡ true → A
+no-true e = absurd (holds e)
+
+pub and-l : (a b : Bool) → a && b ≡ true → a ≡ true
+and-l true b e = refl
+and-l false b e = e
+
+pub and-r : (a b : Bool) → a && b ≡ true → b ≡ true
+and-r true b e = e
+and-r false b e = no-true e
+
+pub or-l : (a b : Bool) → a || b ≡ false → a ≡ false
+or-l true b e = e
+or-l false b e = refl
+
+pub or-r : (a b : Bool) → a || b ≡ false → b ≡ false
+or-r true b e = no-true (sym e)
+or-r false b e = e
+
+pub not-false : (a : Bool) → not a ≡ false → a ≡ true
+not-false true e = refl
+not-false false e = sym e
+
+pub not-true : (a : Bool) → not a ≡ true → a ≡ false
+not-true true e = sym e
+not-true false e = refl
 
 -- two tests of naturals that hold together
 pub leb-same : (x y u v : ℕ) → (x ≤ y → u ≤ v) → (u ≤ v → x ≤ y) → leb x y ≡ leb u v

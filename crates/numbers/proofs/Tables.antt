@@ -1,0 +1,95 @@
+-- Tables of tests: what a call that is taken knows, what a test that holds does, and that the first number is the lowest where the numbers rise.
+use mathlib.Core.Path.{_≡_, refl, sym, ap, subst, _∙_}
+use mathlib.Core.Logic.{inl, inr, ⊎-elim}
+use mathlib.Core.Bool.{Bool, true, false, not, cond, _&&_}
+use mathlib.Core.List.{List, [], _∷_, _++_}
+use Prim.Native.Nat.{ℕ, _≤_, _<_}
+use native.Mathlib.Nat.{le-refl}
+use native.Mathlib.Omega.{arith}
+use borrow.Author.Tests.{eq-eqb, ne-eqb}
+use lib.Dec.{ltb, eqb, ltb→lt}
+use Rattle.numbers.specs.Tables.{firstOf, Applies, Lowest, none-applies, applies}
+use Rattle.numbers.proofs.Tests.{holds, no-true, and-l, and-r, not-true}
+
+-- ---- a call that is taken fails every test, and one that meets a test is refused
+
+-- no number is 0
+abbrev pub numbered : List (ℕ × Bool) → Bool
+numbered [] = true
+numbered (t ∷ ts) = not (eqb (t .0) 0) && numbered ts
+
+abbrev pub AllFail : List (ℕ × Bool) → Type 0
+AllFail [] = Unit {0}
+AllFail (t ∷ ts) = (t .1 ≡ false) × AllFail ts
+
+pub all-fail : (ts : List (ℕ × Bool)) → numbered ts ≡ true → firstOf ts ≡ 0 → AllFail ts
+all-fail [] k e = tt
+all-fail (t ∷ ts) k e =
+    go (t .0) (t .1) (and-l (not (eqb (t .0) 0)) (numbered ts) k) (all-fail ts (and-r (not (eqb (t .0) 0)) (numbered ts) k)) e
+  where
+    go : (n : ℕ) (b : Bool) → not (eqb n 0) ≡ true → (firstOf ts ≡ 0 → AllFail ts) → cond b n (firstOf ts) ≡ 0 → (b ≡ false) × AllFail ts
+    go n true h g e = no-true (subst (λ (m : ℕ). not (eqb m 0) ≡ true) e h)
+    go n false h g e = (refl, g e)
+
+-- whatever stands before a test that holds
+pub met : (ts : List (ℕ × Bool)) (n : ℕ) → numbered ts ≡ true → eqb n 0 ≡ false → eqb (firstOf (ts ++ ((n, true) ∷ []))) 0 ≡ false
+met [] n k h = h
+met (t ∷ ts) n k h = go (t .1) (met ts n (and-r (not (eqb (t .0) 0)) (numbered ts) k) h)
+  where
+    go : (b : Bool) → eqb (firstOf (ts ++ ((n, true) ∷ []))) 0 ≡ false → eqb (cond b (t .0) (firstOf (ts ++ ((n, true) ∷ [])))) 0 ≡ false
+    go true g = not-true (eqb (t .0) 0) (and-l (not (eqb (t .0) 0)) (numbered ts) k)
+    go false g = g
+
+-- a table in two parts: the first part's number, or else the second's
+pub first-append : (ts us : List (ℕ × Bool)) → numbered ts ≡ true → firstOf (ts ++ us) ≡ cond (eqb (firstOf ts) 0) (firstOf us) (firstOf ts)
+first-append [] us k = refl
+first-append (t ∷ ts) us k = go (t .1) (first-append ts us (and-r (not (eqb (t .0) 0)) (numbered ts) k))
+  where
+    go : (b : Bool) → firstOf (ts ++ us) ≡ cond (eqb (firstOf ts) 0) (firstOf us) (firstOf ts)
+        → cond b (t .0) (firstOf (ts ++ us)) ≡ cond (eqb (cond b (t .0) (firstOf ts)) 0) (firstOf us) (cond b (t .0) (firstOf ts))
+    go true g = sym (rw (not-true (eqb (t .0) 0) (and-l (not (eqb (t .0) 0)) (numbered ts) k)))
+    go false g = g
+
+-- ---- the lowest number
+
+-- the numbers rise from above `low`, by rank
+abbrev pub rises : (ℕ → ℕ) → ℕ → List (ℕ × Bool) → Bool
+rises rank low [] = true
+rises rank low (t ∷ ts) = ltb low (rank (t .0)) && rises rank (rank (t .0)) ts
+
+module _ (rank : ℕ → ℕ) where
+  above : (ts : List (ℕ × Bool)) (low : ℕ) → rises rank low ts ≡ true → (m : ℕ) → Applies m ts → low < rank m
+  above [] low k m a = absurd a
+  above (t ∷ ts) low k m a =
+      let h : low < rank (t .0) = ltb→lt low (rank (t .0)) (holds (and-l (ltb low (rank (t .0))) (rises rank (rank (t .0)) ts) k)) in
+      ⊎-elim (λ e. subst (λ (n : ℕ). low < rank n) (e .0) h)
+      (λ b. omega (arith, above ts (rank (t .0)) (and-r (ltb low (rank (t .0))) (rises rank (rank (t .0)) ts) k) m b)) a
+
+  -- where the numbers rise, the first test that holds has the lowest number of those that hold
+  pub first-lowest : (ts : List (ℕ × Bool)) (low : ℕ) → rises rank low ts ≡ true → Lowest rank ts (firstOf ts)
+  first-lowest [] low k = none-applies (λ m a. a)
+  first-lowest (t ∷ ts) low k =
+      let rest : rises rank (rank (t .0)) ts ≡ true = and-r (ltb low (rank (t .0))) (rises rank (rank (t .0)) ts) k in
+      go rest (first-lowest ts (rank (t .0)) rest) (t .1) refl
+    where
+      -- t fails
+      later : {A : Type 0} (m : ℕ) → t .1 ≡ false → (Applies m ts → A) → Applies m (t ∷ ts) → A
+      later m e f a = ⊎-elim (λ p. no-true (sym e ∙ p .1)) f a
+
+      pass : t .1 ≡ false → {n : ℕ} → Lowest rank ts n → Lowest rank (t ∷ ts) n
+      pass e (none-applies f) = none-applies (λ m a. later m e (f m) a)
+      pass e (applies b f) = applies (inr b) (λ m a. later m e (f m) a)
+
+      go : rises rank (rank (t .0)) ts ≡ true → Lowest rank ts (firstOf ts) → (b : Bool) → t .1 ≡ b → Lowest rank (t ∷ ts) (cond b (t .0) (firstOf ts))
+      go rest g true e =
+          applies (inl (refl, e))
+          (λ m a. ⊎-elim (λ p. subst (λ (n : ℕ). rank (t .0) ≤ rank n) (p .0) (le-refl (rank (t .0)))) (λ b. omega (arith, above ts (rank (t .0)) rest m b)) a)
+      go rest g false e = pass e g
+
+-- ---- what is done where a number is 0, and where it is not
+
+pub zero-cond : {A : Type 0} (n : ℕ) (a b : A) → n ≡ 0 → cond (eqb n 0) a b ≡ a
+zero-cond n a b e = ap (λ (t : Bool). cond t a b) (eq-eqb n 0 e)
+
+pub nonzero-cond : {A : Type 0} (n : ℕ) (a b : A) → (n ≡ 0 → ⊥) → cond (eqb n 0) a b ≡ b
+nonzero-cond n a b f = ap (λ (t : Bool). cond t a b) (ne-eqb n 0 f)

@@ -1,0 +1,2 @@
+-- What callers cite of a station whose readings are not refused.
+pub mod Read

@@ -1,0 +1,125 @@
+-- A station whose readings are not refused: its ranges and orders hold, so its readings and constants are small.
+use mathlib.Core.Path.{_≡_, refl, sym, ap, _∙_}
+use mathlib.Core.Bool.{Bool, true, false, not, _&&_, _||_}
+use mathlib.Core.List.{List}
+use Prim.Native.Nat.{ℕ, _≤_}
+use native.Mathlib.Omega.{arith}
+use lib.IntN.{ℤ, pos, natAbs, _+ℤ_, _-ℤ_}
+use Rattle.numbers.specs.Whole.{between, eqZ}
+use Rattle.numbers.proofs.Tests.{and-l, and-r, not-false, no-true}
+use Rattle.numbers.proofs.Equal.{eqZ-eq}
+use Rattle.numbers.proofs.Sizes.{between-size, abs-add, abs-sub}
+use Rattle.numbers.proofs.Tables.{all-fail}
+use Rattle.station.specs.Bounds.{SmallSighting, Small}
+use Rattle.station.specs.Station.{Staff, Station, stationOf, sight, sightingOf, figuresOf, readingsInRange, constantsPaired, threadsInOrder, readingTests, readingRefusal}
+
+pub record SmallStaff (s : Staff) : Type 0 where
+  pub constant : natAbs (s .constant) ≤ 4787
+  pub upper : natAbs (s .upper) ≤ 3000
+  pub lower : natAbs (s .lower) ≤ 3000
+  pub black : natAbs (s .black) ≤ 3000
+  pub red : natAbs (s .red) ≤ 7999
+
+pub small-staff : (s : Staff) → natAbs (s .constant) ≤ 4787 → readingsInRange s ≡ true → SmallStaff s
+small-staff s k e =
+    let u = between (pos 0) (s .upper) (pos 3000) in
+    let l = between (pos 0) (s .lower) (pos 3000) in
+    let m = between (pos 0) (s .black) (pos 3000) in
+    let r = between (pos 0) (s .red) (pos 7999) in
+    record {
+      constant = k;
+      upper = between-size (s .upper) 3000 (and-l u l (and-l (u && l) m (and-l (u && l && m) r e)));
+      lower = between-size (s .lower) 3000 (and-r u l (and-l (u && l) m (and-l (u && l && m) r e)));
+      black = between-size (s .black) 3000 (and-r (u && l) m (and-l (u && l && m) r e));
+      red = between-size (s .red) 7999 (and-r (u && l && m) r e);
+    }
+
+-- of two constants that pair, one is 4,687 and the other 4,787
+module _ (x : Station) where
+  abbrev Sizes : Type 0
+  Sizes = (natAbs (x .back .constant) ≤ 4787) × (natAbs (x .fore .constant) ≤ 4787)
+
+  paired-sizes : constantsPaired x ≡ true → Sizes
+  paired-sizes e = go (eqZ (x .back .constant) (pos 4687) && eqZ (x .fore .constant) (pos 4787)) refl e
+    where
+      size : (k : ℤ) (n : ℕ) → n ≤ 4787 → eqZ k (pos n) ≡ true → natAbs k ≤ 4787
+      size k n h q = omega (arith, ap natAbs (eqZ-eq k (pos n) q))
+
+      both : (b f : ℕ) → b ≤ 4787 → f ≤ 4787 → eqZ (x .back .constant) (pos b) && eqZ (x .fore .constant) (pos f) ≡ true → Sizes
+      both b f h k q = (
+        size (x .back .constant) b h (and-l (eqZ (x .back .constant) (pos b)) (eqZ (x .fore .constant) (pos f)) q),
+        size (x .fore .constant) f k (and-r (eqZ (x .back .constant) (pos b)) (eqZ (x .fore .constant) (pos f)) q),
+      )
+
+      go : (t : Bool) → eqZ (x .back .constant) (pos 4687) && eqZ (x .fore .constant) (pos 4787) ≡ t
+          → t || (eqZ (x .back .constant) (pos 4787) && eqZ (x .fore .constant) (pos 4687)) ≡ true
+          → Sizes
+      go true p q = both 4687 4787 (omega arith) (omega arith) p
+      go false p q = both 4787 4687 (omega arith) (omega arith) q
+
+-- what the tests 6, 7 and 8 leave of a station
+pub record Read (x : Station) : Type 0 where
+  pub back-range : readingsInRange (x .back) ≡ true
+  pub fore-range : readingsInRange (x .fore) ≡ true
+  pub paired : constantsPaired x ≡ true
+  pub back-order : threadsInOrder (x .back) ≡ true
+  pub fore-order : threadsInOrder (x .fore) ≡ true
+  pub back : SmallStaff (x .back)
+  pub fore : SmallStaff (x .fore)
+
+pub read : (kb kf : ℤ) (readings : List (List ℤ)) → readingRefusal kb kf readings ≡ 0 → Read (stationOf kb kf readings)
+unfolding readingRefusal
+read kb kf readings e =
+    let f = all-fail (readingTests x) refl e in
+    let range = not-false (readingsInRange (x .back) && readingsInRange (x .fore)) (f .0) in
+    let pair = not-false (constantsPaired x) (f .1 .0) in
+    let order = not-false (threadsInOrder (x .back) && threadsInOrder (x .fore)) (f .1 .1 .0) in
+    let b = and-l (readingsInRange (x .back)) (readingsInRange (x .fore)) range in
+    let r = and-r (readingsInRange (x .back)) (readingsInRange (x .fore)) range in
+    record {
+      back-range = b;
+      fore-range = r;
+      paired = pair;
+      back-order = and-l (threadsInOrder (x .back)) (threadsInOrder (x .fore)) order;
+      fore-order = and-r (threadsInOrder (x .back)) (threadsInOrder (x .fore)) order;
+      back = small-staff (x .back) (paired-sizes x pair .0) b;
+      fore = small-staff (x .fore) (paired-sizes x pair .1) r;
+    }
+  where
+    x : Station
+    x = stationOf kb kf readings
+
+-- ---- its figures are small
+
+sighting-small : {s : Staff} → SmallStaff s → SmallSighting (sightingOf s)
+sighting-small {s} h =
+    record {
+      sight = omega (arith, abs-sub (s .upper) (s .lower), h .upper, h .lower);
+      face = omega (arith, abs-sub (s .constant +ℤ s .black) (s .red), abs-add (s .constant) (s .black), h .constant, h .black, h .red);
+    }
+
+pub figures-small : {x : Station} → Read x → Small (figuresOf x)
+figures-small {x} h =
+    let back = sighting-small (h .back) in
+    let fore = sighting-small (h .fore) in
+    let b = x .back in
+    let f = x .fore in
+    record {
+      back = back;
+      fore = fore;
+      difference = omega (arith, abs-sub (sight b) (sight f), back .sight, fore .sight);
+      height = omega (
+        arith,
+        abs-sub ((b .black -ℤ f .black) +ℤ (b .red -ℤ f .red)) (b .constant -ℤ f .constant),
+        abs-add (b .black -ℤ f .black) (b .red -ℤ f .red),
+        abs-sub (b .black) (f .black),
+        abs-sub (b .red) (f .red),
+        abs-sub (b .constant) (f .constant),
+        h .back .black,
+        h .fore .black,
+        h .back .red,
+        h .fore .red,
+        h .back .constant,
+        h .fore .constant,
+      );
+    }

@@ -1,0 +1,15 @@
+-- How large the figures of readings in their ranges can be: what keeps the code's sums small. No rule of the station.
+use Prim.Native.Nat.{_≤_}
+use lib.IntN.{natAbs}
+use Rattle.station.specs.declared.Sighting.{Sighting}
+use Rattle.station.specs.declared.Figures.{Figures}
+
+pub record SmallSighting (g : Sighting) : Type 0 where
+  pub sight : natAbs (g .sight) ≤ 6000
+  pub face : natAbs (g .face) ≤ 15786
+
+pub record Small (f : Figures) : Type 0 where
+  pub back : SmallSighting (f .back)
+  pub fore : SmallSighting (f .fore)
+  pub difference : natAbs (f .difference) ≤ 12000
+  pub height : natAbs (f .height) ≤ 31572

@@ -1,0 +1,128 @@
+-- A station: its readings, what is computed of them, and the limits of GB 12898-91, Tables 6 and 8 (document 01, 'The station').
+use mathlib.Core.Bool.{Bool, not, cond, _&&_, _||_}
+use mathlib.Core.List.{List, [], _∷_}
+use Prim.Native.Nat.{ℕ}
+use lib.ListN.{getD}
+use lib.Dec.{eqb}
+use lib.IntN.{ℤ, pos, _+ℤ_, _-ℤ_}
+use lib.Signed.{ltZ}
+use Rattle.numbers.specs.Whole.{within, between, eqZ}
+use Rattle.numbers.specs.Tables.{firstOf}
+use Rattle.station.specs.declared.Order.{Order}
+use Rattle.station.specs.declared.Order.the-variants.{Third, Fourth}
+use Rattle.station.specs.declared.Instrument.{Instrument}
+use Rattle.station.specs.declared.Instrument.the-variants.{Ds3, Ds1}
+use Rattle.station.specs.declared.Limits.{Limits}
+use Rattle.station.specs.declared.Sighting.{Sighting}
+use Rattle.station.specs.declared.Figures.{Figures}
+
+-- a staff's constant K and its four readings, in mm
+pub record Staff : Type 0 where
+  pub constant : ℤ
+  pub upper : ℤ
+  pub lower : ℤ
+  pub black : ℤ
+  pub red : ℤ
+
+pub record Station : Type 0 where
+  pub back : Staff
+  pub fore : Staff
+
+-- readings come as upper thread, lower thread, black middle, red middle
+abbrev pub staffOf : ℤ → List ℤ → Staff
+staffOf k t = record { constant = k; upper = getD t 0 (pos 0); lower = getD t 1 (pos 0); black = getD t 2 (pos 0); red = getD t 3 (pos 0) }
+
+-- of the two constants and the readings, back and fore
+abbrev pub stationOf : ℤ → ℤ → List (List ℤ) → Station
+stationOf kb kf readings = record { back = staffOf kb (getD readings 0 []); fore = staffOf kf (getD readings 1 []) }
+
+-- ---- figures
+
+-- dm
+abbrev pub sight : Staff → ℤ
+sight s = s .upper -ℤ s .lower
+
+-- d, dm
+abbrev pub sightDifference : Station → ℤ
+sightDifference x = sight (x .back) -ℤ sight (x .fore)
+
+-- both sights, dm
+abbrev pub sights : Station → ℤ
+sights x = sight (x .back) +ℤ sight (x .fore)
+
+-- e, mm
+abbrev pub faceDifference : Staff → ℤ
+faceDifference s = s .constant +ℤ s .black -ℤ s .red
+
+-- twice the station height ('twice-height'), half mm
+abbrev pub twiceHeight : Station → ℤ
+twiceHeight x =
+    (x .back .black -ℤ x .fore .black) +ℤ (x .back .red -ℤ x .fore .red) -ℤ (x .back .constant -ℤ x .fore .constant)
+
+-- ---- what the input alone causes
+
+abbrev pub readingsInRange : Staff → Bool
+readingsInRange s =
+    between (pos 0) (s .upper) (pos 3000) && between (pos 0) (s .lower) (pos 3000) && between (pos 0) (s .black) (pos 3000)
+    && between (pos 0) (s .red) (pos 7999)
+
+abbrev pub constantsPaired : Station → Bool
+constantsPaired x =
+    (eqZ (x .back .constant) (pos 4687) && eqZ (x .fore .constant) (pos 4787))
+    || (eqZ (x .back .constant) (pos 4787) && eqZ (x .fore .constant) (pos 4687))
+
+abbrev pub threadsInOrder : Staff → Bool
+threadsInOrder s = ltZ (s .lower) (s .black) && ltZ (s .black) (s .upper)
+
+abbrev pub readingTests : Station → List (ℕ × Bool)
+readingTests x =
+    (6, not (readingsInRange (x .back) && readingsInRange (x .fore)))
+    ∷ (7, not (constantsPaired x))
+    ∷ (8, not (threadsInOrder (x .back) && threadsInOrder (x .fore))) ∷ []
+
+-- ---- what the limits cause
+
+abbrev pub sightLimit : Order → Instrument → ℕ
+sightLimit Third Ds3 = 750
+sightLimit Third Ds1 = 1000
+sightLimit Fourth Ds3 = 1000
+sightLimit Fourth Ds1 = 1500
+
+abbrev pub limitsOf : Order → Instrument → Limits
+limitsOf Third instrument = record { sight = sightLimit Third instrument; difference = 20; accumulated = 50; face = 2; faces = 3 }
+limitsOf Fourth instrument = record { sight = sightLimit Fourth instrument; difference = 30; accumulated = 100; face = 3; faces = 5 }
+
+abbrev pub sightingOf : Staff → Sighting
+sightingOf s = record { sight = sight s; face = faceDifference s }
+
+abbrev pub figuresOf : Station → Figures
+figuresOf x =
+    record { back = sightingOf (x .back); fore = sightingOf (x .fore); difference = sightDifference x; height = twiceHeight x }
+
+-- all inclusive, on absolute values; `accumulated` is the sum of d before this station
+abbrev pub limitTests : Limits → ℤ → Figures → List (ℕ × Bool)
+limitTests l accumulated f =
+    (24, not (within (f .back .sight) (l .sight) && within (f .fore .sight) (l .sight)))
+    ∷ (25, not (within (f .difference) (l .difference)))
+    ∷ (26, not (within (accumulated +ℤ f .difference) (l .accumulated)))
+    ∷ (27, not (within (f .back .face) (l .face) && within (f .fore .face) (l .face)))
+    ∷ (28, not (within (f .back .face -ℤ f .fore .face) (l .faces))) ∷ []
+
+-- ---- the calls
+
+-- 6, 7, 8, or 0
+unfoldable pub readingRefusal : ℤ → ℤ → List (List ℤ) → ℕ
+readingRefusal kb kf readings = firstOf (readingTests (stationOf kb kf readings))
+
+-- of a station whose readings are refused the figures are all 0, and no limit is tested
+abbrev pub noFigures : Figures
+noFigures =
+    record { back = record { sight = pos 0; face = pos 0 }; fore = record { sight = pos 0; face = pos 0 }; difference = pos 0; height = pos 0 }
+
+unfoldable pub figuresIfRead : ℤ → ℤ → List (List ℤ) → Figures
+figuresIfRead kb kf readings = cond (eqb (readingRefusal kb kf readings) 0) (figuresOf (stationOf kb kf readings)) noFigures
+
+-- 24 to 28, or 0
+unfoldable pub limitRefusal : Order → Instrument → ℤ → ℤ → ℤ → List (List ℤ) → ℕ
+limitRefusal order instrument accumulated kb kf readings =
+    cond (eqb (readingRefusal kb kf readings) 0) (firstOf (limitTests (limitsOf order instrument) accumulated (figuresOf (stationOf kb kf readings)))) 0

@@ -1,0 +1,247 @@
+// A station's figures, and the rules that look at one station alone. Readings are back and fore, each upper thread, lower thread,
+// black middle and red middle in mm; kb and kf are the constants of the back and the fore staff.
+ghost use mathlib.Core.Path.{_≡_};
+ghost use mathlib.Core.Bool.{true, not, cond, _&&_};
+ghost use Prim.Native.Nat.{_≤_};
+ghost use lib.IntN.{pos, natAbs, _+ℤ_, _-ℤ_};
+ghost use Rattle.numbers.specs.Whole.{within};
+ghost use Rattle.numbers.specs.Tables.{firstOf};
+ghost use Rattle.station.specs.Bounds.{Small};
+ghost use Rattle.station.specs.Station.{staffOf, stationOf, sightingOf, twiceHeight, figuresOf, readingsInRange, threadsInOrder, constantsPaired, readingRefusal, figuresIfRead, sightLimit, limitsOf, limitTests, limitRefusal};
+use roots::limits::magnitude;
+
+pub enum Order {
+    Third,
+    Fourth,
+}
+
+// DS3, or one of the better instruments, DS1 and DS05.
+pub enum Instrument {
+    Ds3,
+    Ds1,
+}
+
+// The limits that an order and an instrument set: dm for sights, mm for faces.
+pub struct Limits {
+    pub sight: u64,
+    pub difference: u64,
+    pub accumulated: u64,
+    pub face: u64,
+    pub faces: u64,
+}
+
+// What one staff shows: its sight in dm and its face difference e in mm.
+pub struct Sighting {
+    pub sight: i64,
+    pub face: i64,
+}
+
+// Both staffs, d in dm, and twice the station height in half mm.
+pub struct Figures {
+    pub back: Sighting,
+    pub fore: Sighting,
+    pub difference: i64,
+    pub height: i64,
+}
+
+// code where t holds, rest otherwise.
+fn pick(t: bool, code: u8, rest: u8) -> u8
+    ensures { λ r. ⌜ r ≡ cond t code rest ⌝ }
+{
+    if t { code } else { rest }
+}
+
+fn in_range(t: [i64; 4]) -> bool
+    ensures { λ r. ⌜ r ≡ readingsInRange (staffOf (pos 0) t) ⌝ }
+{
+    ((0 <= t[0]) & (t[0] <= 3000))
+        & ((0 <= t[1]) & (t[1] <= 3000))
+        & ((0 <= t[2]) & (t[2] <= 3000))
+        & ((0 <= t[3]) & (t[3] <= 7999))
+}
+
+fn in_order(t: [i64; 4]) -> bool
+    ensures { λ r. ⌜ r ≡ threadsInOrder (staffOf (pos 0) t) ⌝ }
+{
+    (t[1] < t[2]) & (t[2] < t[0])
+}
+
+fn paired(kb: i64, kf: i64, readings: [[i64; 4]; 2]) -> bool
+    ensures { λ r. ⌜ r ≡ constantsPaired (stationOf kb kf readings) ⌝ }
+{
+    ((kb == 4687) & (kf == 4787)) | ((kb == 4787) & (kf == 4687))
+}
+
+// The refusal that the readings and constants alone cause: 6, 7 or 8, or 0.
+pub fn reading_refusal(kb: i64, kf: i64, readings: [[i64; 4]; 2]) -> u8
+    ensures { λ r. ⌜ r ≡ readingRefusal kb kf readings ⌝ }
+{
+    let back = readings[0];
+    let fore = readings[1];
+    let order = pick(!(in_order(back) & in_order(fore)), 8, 0);
+    let constants = pick(!paired(kb, kf, readings), 7, order);
+    pick(!(in_range(back) & in_range(fore)), 6, constants)
+}
+
+// The sight and face difference of a staff with the constant k.
+fn sighting_of(k: i64, t: [i64; 4]) -> Sighting
+    requires { ⌜ (natAbs k ≤ 4787) × (readingsInRange (staffOf k t) ≡ true) ⌝ }
+    ensures { λ r. ⌜ r ≡ sightingOf (staffOf k t) ⌝ }
+{
+    Sighting {
+        sight: t[0] - t[1],
+        face: k + t[2] - t[3],
+    }
+}
+
+// Twice the height of a station, from its middle readings.
+fn twice_height(kb: i64, kf: i64, readings: [[i64; 4]; 2]) -> i64
+    requires { ⌜ readingRefusal kb kf readings ≡ 0 ⌝ }
+    ensures { λ r. ⌜ r ≡ twiceHeight (stationOf kb kf readings) ⌝ }
+{
+    let back = readings[0];
+    let fore = readings[1];
+    (back[2] - fore[2]) + (back[3] - fore[3]) - (kb - kf)
+}
+
+fn computed(kb: i64, kf: i64, readings: [[i64; 4]; 2]) -> Figures
+    requires { ⌜ readingRefusal kb kf readings ≡ 0 ⌝ }
+    ensures { λ r. ⌜ r ≡ figuresOf (stationOf kb kf readings) ⌝ }
+{
+    let height = twice_height(kb, kf, readings);
+    let back = sighting_of(kb, readings[0]);
+    let fore = sighting_of(kf, readings[1]);
+    let difference = back.sight - fore.sight;
+    Figures {
+        back: back,
+        fore: fore,
+        difference: difference,
+        height: height,
+    }
+}
+
+// A station's figures, all 0 where its readings are refused.
+pub fn figures_of(kb: i64, kf: i64, readings: [[i64; 4]; 2]) -> Figures
+    ensures { λ r. ⌜ r ≡ figuresIfRead kb kf readings ⌝ }
+{
+    if reading_refusal(kb, kf, readings) != 0 {
+        let none = Sighting { sight: 0, face: 0 };
+        return Figures {
+            back: none,
+            fore: none,
+            difference: 0,
+            height: 0,
+        };
+    }
+    computed(kb, kf, readings)
+}
+
+fn sight_limit(order: Order, instrument: Instrument) -> u64
+    ensures { λ r. ⌜ r ≡ sightLimit order instrument ⌝ }
+{
+    match order {
+        Order::Third => match instrument {
+            Instrument::Ds3 => 750,
+            Instrument::Ds1 => 1000,
+        },
+        Order::Fourth => match instrument {
+            Instrument::Ds3 => 1000,
+            Instrument::Ds1 => 1500,
+        },
+    }
+}
+
+fn limits_of(order: Order, instrument: Instrument) -> Limits
+    ensures { λ r. ⌜ r ≡ limitsOf order instrument ⌝ }
+{
+    let sight = sight_limit(order, instrument);
+    match order {
+        Order::Third => Limits {
+            sight: sight,
+            difference: 20,
+            accumulated: 50,
+            face: 2,
+            faces: 3,
+        },
+        Order::Fourth => Limits {
+            sight: sight,
+            difference: 30,
+            accumulated: 100,
+            face: 3,
+            faces: 5,
+        },
+    }
+}
+
+fn is_within(x: i64, limit: u64) -> bool
+    ensures { λ r. ⌜ r ≡ within x limit ⌝ }
+{
+    magnitude(x) <= limit
+}
+
+// Whether both numbers are within the limit.
+fn both_within(x: i64, y: i64, limit: u64) -> bool
+    ensures { λ r. ⌜ r ≡ within x limit && within y limit ⌝ }
+{
+    is_within(x, limit) & is_within(y, limit)
+}
+
+// Whether the accumulated d and one d more are within the limit together: a sum that could wrap is far beyond it.
+fn sum_within(accumulated: i64, d: i64, limit: u64) -> bool
+    requires { ⌜ (natAbs d ≤ 12000) × (limit ≤ 1000) ⌝ }
+    ensures { λ r. ⌜ r ≡ within (accumulated +ℤ d) limit ⌝ }
+{
+    if 1000000 < magnitude(accumulated) {
+        false
+    } else {
+        is_within(accumulated + d, limit)
+    }
+}
+
+fn difference_within(x: i64, y: i64, limit: u64) -> bool
+    requires { ⌜ (natAbs x ≤ 15786) × (natAbs y ≤ 15786) ⌝ }
+    ensures { λ r. ⌜ r ≡ within (x -ℤ y) limit ⌝ }
+{
+    is_within(x - y, limit)
+}
+
+// The first limit that the figures break: 24 to 28, or 0.
+fn judged(l: Limits, accumulated: i64, f: Figures) -> u8
+    requires { ⌜ Small f × (l .accumulated ≤ 1000) ⌝ }
+    ensures { λ r. ⌜ r ≡ firstOf (limitTests l accumulated f) ⌝ }
+{
+    let faces = pick(!difference_within(f.back.face, f.fore.face, l.faces), 28, 0);
+    let face = pick(!both_within(f.back.face, f.fore.face, l.face), 27, faces);
+    let sum = pick(
+        !sum_within(accumulated, f.difference, l.accumulated),
+        26,
+        face,
+    );
+    let difference = pick(!is_within(f.difference, l.difference), 25, sum);
+    pick(
+        !both_within(f.back.sight, f.fore.sight, l.sight),
+        24,
+        difference,
+    )
+}
+
+// The refusal that the limits of an order and an instrument cause: 24 to 28, or 0. accumulated is the sum of d before this station.
+pub fn limit_refusal(
+    order: Order,
+    instrument: Instrument,
+    accumulated: i64,
+    kb: i64,
+    kf: i64,
+    readings: [[i64; 4]; 2],
+) -> u8
+    ensures { λ r. ⌜ r ≡ limitRefusal order instrument accumulated kb kf readings ⌝ }
+{
+    if reading_refusal(kb, kf, readings) != 0 {
+        return 0;
+    }
+    judged(
+        limits_of(order, instrument),
+        accumulated,
+        computed(kb, kf, readings),
+    )
+}
