@@ -1,0 +1,60 @@
+-- The sections of a line, as a list and in arrays.
+use mathlib.Core.Bool.{Bool, not, _&&_}
+use mathlib.Core.List.{List, [], _∷_, _++_, map}
+use Prim.Native.Nat.{ℕ, zero, suc, _+_}
+use lib.ListN.{length, getD, drop}
+use lib.IntN.{ℤ, pos, negℤ}
+use Rattle.numbers.specs.Whole.{within, between, anyOf}
+use Rattle.adjust.specs.declared.Section.{Section}
+use Rattle.adjust.specs.declared.Sections.{Sections}
+
+-- ---- in arrays
+
+-- the section in place k
+abbrev pub sectionAt : Sections → ℕ → Section
+sectionAt s k =
+    record {
+      number = getD (s .numbers) k (pos 0);
+      height = getD (s .heights) k (pos 0);
+      distance = getD (s .distances) k (pos 0);
+      discrepancy = getD (s .discrepancies) k (pos 0);
+    }
+
+-- n sections, from place k on
+unfoldable pub sectionsFrom : Sections → ℕ → ℕ → List Section
+sectionsFrom s k zero = []
+sectionsFrom s k (suc n) = sectionAt s k ∷ sectionsFrom s (k + 1) n
+
+abbrev pub sectionsOf : Sections → List Section
+sectionsOf s = sectionsFrom s 0 (s .count)
+
+-- an array with its first places overwritten by a list; the others keep what they held
+abbrev pub over : {A : Type 0} → List A → List A → List A
+over xs ys = xs ++ drop (length xs) ys
+
+-- the arrays s with the list ss in them
+unfoldable pub holding : Sections → List Section → Sections
+holding s ss =
+    record {
+      count = length ss;
+      numbers = over (map (λ (x : Section). x .number) ss) (s .numbers);
+      heights = over (map (λ (x : Section). x .height) ss) (s .heights);
+      distances = over (map (λ (x : Section). x .distance) ss) (s .distances);
+      discrepancies = over (map (λ (x : Section). x .discrepancy) ss) (s .discrepancies);
+    }
+
+-- ---- ranges
+
+-- document 01's range for the adjustment (refusal 12)
+abbrev pub legInRange : Section → Bool
+legInRange x = within (x .height) 2500000 && between (pos 1) (x .distance) (pos 1200000)
+
+-- A wider range, in which all figures of up to 64 sections fit 64 bits. No run of 200 stations leaves it.
+abbrev pub legFits : Section → Bool
+legFits x = within (x .height) 50000000 && between (pos 1) (x .distance) (pos 1200000)
+
+abbrev pub sectionFits : Section → Bool
+sectionFits x = legFits x && within (x .discrepancy) 100000
+
+abbrev pub heightInRange : ℤ → Bool
+heightInRange h = between (negℤ (pos 999999)) h (pos 8999999)
