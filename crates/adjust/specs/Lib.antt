@@ -1,3 +1,5 @@
 pub mod Sections
 pub mod Line
 pub mod Claims
+pub mod Frames
+pub mod Bounds

@@ -1,8 +1,9 @@
 -- The sections of a line, as a list and in arrays.
-use mathlib.Core.Bool.{Bool, not, _&&_}
+use mathlib.Core.Bool.{Bool, false, not, cond, _&&_, _||_}
 use mathlib.Core.List.{List, [], _∷_, _++_, map}
 use Prim.Native.Nat.{ℕ, zero, suc, _+_}
 use lib.ListN.{length, getD, drop}
+use lib.Dec.{leb}
 use lib.IntN.{ℤ, pos, negℤ}
 use Rattle.numbers.specs.Whole.{within, between, anyOf}
 use Rattle.adjust.specs.declared.Section.{Section}
@@ -45,16 +46,24 @@ holding s ss =
 
 -- ---- ranges
 
--- document 01's range for the adjustment (refusal 12)
+-- document 01's range of Q and R in the adjustment call (refusal 12)
 abbrev pub legInRange : Section → Bool
 legInRange x = within (x .height) 2500000 && between (pos 1) (x .distance) (pos 1200000)
 
--- A wider range, in which all figures of up to 64 sections fit 64 bits. No run of 200 stations leaves it.
+-- A wider range, in which all figures of up to 64 sections fit 64 bits. No section of a book made by calls is outside it.
 abbrev pub legFits : Section → Bool
 legFits x = within (x .height) 50000000 && between (pos 1) (x .distance) (pos 1200000)
 
 abbrev pub sectionFits : Section → Bool
 sectionFits x = legFits x && within (x .discrepancy) 100000
+
+-- some section is outside: of document 01's range, or of the wider one
+abbrev pub anyOutside : Bool → List Section → Bool
+anyOutside strict ss = anyOf (λ (x : Section). not (cond strict (legInRange x) (sectionFits x))) ss
+
+-- more than 64 sections, or one outside the wider range
+abbrev pub misfit : List Section → Bool
+misfit ss = not (leb (length ss) 64) || anyOutside false ss
 
 abbrev pub heightInRange : ℤ → Bool
 heightInRange h = between (negℤ (pos 999999)) h (pos 8999999)

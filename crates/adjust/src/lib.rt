@@ -1,4 +1,14 @@
 // Closing figures over the sections of a line, and the adjustment call.
+ghost use mathlib.Core.Path.{_≡_};
+ghost use Rattle.adjust.specs.Sections.{sectionsOf, heightInRange};
+ghost use Rattle.adjust.specs.Frames.{figuresFit, totalsIfFit, adjustedOf, nothing, adjustedIfFit};
+ghost use Rattle.adjust.specs.Line.{closing};
+ghost use Rattle.adjust.specs.Bounds.{Between, Fitted};
+pub mod table;
+mod sums;
+mod heights;
+mod accidental;
+use station::Order;
 
 pub struct Benchmark {
     pub number: i64,
@@ -44,4 +54,95 @@ pub struct Summary {
 pub struct Adjusted {
     pub summary: Summary,
     pub points: [Point; 65],
+}
+
+// W in quarter mm and L in half dm.
+pub struct Totals {
+    pub closure: i64,
+    pub distance: i64,
+}
+
+fn height_in_range(h: i64) -> bool
+    ensures { λ r. ⌜ r ≡ heightInRange h ⌝ }
+{
+    (-999999 <= h) & (h <= 8999999)
+}
+
+// Whether the figures of these sections between these heights fit 64 bits.
+fn figures_fit(start: i64, end: i64, s: Sections) -> bool
+    ensures { λ r. ⌜ r ≡ figuresFit start end (sectionsOf s) ⌝ }
+{
+    (0 < s.count) & !table::misfits(s) & height_in_range(start) & height_in_range(end)
+}
+
+// W and L of the sections between two known heights; zeros where the figures could not fit.
+pub fn totals_of(start: i64, end: i64, s: Sections) -> Totals
+    ensures { λ r. ⌜ r ≡ totalsIfFit start end (sectionsOf s) ⌝ }
+{
+    if figures_fit(start, end, s) {
+        let f = heights::known_of(start, end, s);
+        return Totals {
+            closure: f.closing,
+            distance: f.total,
+        };
+    }
+    Totals {
+        closure: 0,
+        distance: 0,
+    }
+}
+
+// The closing of figures that fit.
+fn closing_of(order: Order, start: Benchmark, end: i64, s: Sections) -> Adjusted
+    requires { ⌜ Between (start .height) end s × Fitted s ⌝ }
+    ensures { λ r. ⌜ r ≡ adjustedOf (closing order start end (sectionsOf s)) ⌝ }
+{
+    let f = heights::known_of(start.height, end, s);
+    let t = accidental::accidental_sum(order, s);
+    let verdict = accidental::verdict_of(order, s.count, t);
+    let points = heights::points_of(f, start.number, s);
+    let summary = Summary {
+        closure: f.closing,
+        distance: f.total,
+        count: s.count,
+        accidental: t,
+        verdict: verdict,
+    };
+    Adjusted {
+        summary: summary,
+        points: points,
+    }
+}
+
+// What closing the line gives: W, L, n, T, the verdict and the points; zeros where the figures could not fit.
+pub fn adjusted_line(order: Order, start: Benchmark, end: i64, s: Sections) -> Adjusted
+    ensures { λ r. ⌜ r ≡ adjustedIfFit order start end (sectionsOf s) ⌝ }
+{
+    if figures_fit(start.height, end, s) {
+        return closing_of(order, start, end, s);
+    }
+    no_line()
+}
+
+fn no_line() -> Adjusted
+    ensures { λ r. ⌜ r ≡ adjustedOf nothing ⌝ }
+{
+    let none = Point {
+        number: 0,
+        distance: 0,
+        correction: 0,
+        height: 0,
+    };
+    let summary = Summary {
+        closure: 0,
+        distance: 0,
+        count: 0,
+        accidental: 0,
+        verdict: 0,
+    };
+    let points = [none; 65];
+    Adjusted {
+        summary: summary,
+        points: points,
+    }
 }

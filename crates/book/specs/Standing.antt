@@ -11,7 +11,7 @@ use Rattle.station.specs.declared.Order.{Order}
 use Rattle.station.specs.declared.Order.the-variants.{Third, Fourth}
 use Rattle.station.specs.declared.Figures.{Figures}
 use Rattle.adjust.specs.declared.Section.{Section}
-use Rattle.adjust.specs.Sections.{sectionsOf, holding, sectionFits, heightInRange}
+use Rattle.adjust.specs.Sections.{sectionsOf, holding, misfit, heightInRange}
 use Rattle.book.specs.declared.Stage.{Stage}
 use Rattle.book.specs.declared.Stage.the-variants.{Fresh, Open, Closed}
 use Rattle.book.specs.declared.Run.{Run}
@@ -106,7 +106,6 @@ runFits u = leb (u .count) 200 && within (u .height) 25000000 && between (pos 0)
 
 unfoldable pub broken : Standing → Bool
 broken v =
-    not (leb (length (v .sections)) 64) || anyOf (λ (x : Section). not (sectionFits x)) (v .sections)
-    || not (runFits (v .line .present))
+    misfit (v .sections) || not (runFits (v .line .present))
     || outwardOrReturn (v .line .waiting) false (λ number run. not (runFits run) || leb 64 (length (v .sections)))
     || not (heightInRange (v .line .start .height)) || not (heightInRange (v .line .end))

@@ -30,6 +30,10 @@ known y {k} h t = record { is = stored-id (abs-fits (omega (arith, ltb→lt k 92
 pub cast : (n : ℕ) {k : ℕ} → n ≤ k → Small k → Value (toZ w64 n) (pos n) k
 cast n {k} h t = record { is = cast-nat n (omega (arith, ltb→lt k 9223372036854775808 t)); size = h }
 
+-- a plain integer, where only sizes are followed
+pub plain : (y : ℤ) {k : ℕ} → natAbs y ≤ k → Value y y k
+plain y h = record { is = refl; size = h }
+
 pub literal : (y : ℤ) → Value y y (natAbs y)
 literal y = record { is = refl; size = le-refl (natAbs y) }
 

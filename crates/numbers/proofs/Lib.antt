@@ -7,3 +7,5 @@ pub mod Equal
 pub mod Machine
 pub mod Chain
 pub mod Tables
+pub mod Filled
+pub mod All

@@ -28,6 +28,11 @@ stored-as e f = ap (λ (x : ℤ). toZ w64 (ofZ w64 x)) e ∙ toZ-ofZ f
 pub stored-both : {A : Type 0} (f : ℤ → ℤ → A) {x y : ℤ} → SFits w64 x → SFits w64 y → f (toZ w64 (ofZ w64 x)) (toZ w64 (ofZ w64 y)) ≡ f x y
 stored-both f p q = λ i. f (toZ-ofZ p i) (toZ-ofZ q i)
 
+-- a fact about two values, of what is read back
+pub holds-stored : (P : ℤ → ℤ → Type 0) {x y : ℤ} → SFits w64 x → SFits w64 y → P x y → P (toZ w64 (ofZ w64 x)) (toZ w64 (ofZ w64 y))
+holds-stored P {x} {y} p q h =
+    subst (λ (z : ℤ). P z (toZ w64 (ofZ w64 y))) (sym (toZ-ofZ p)) (subst (P x) (sym (toZ-ofZ q)) h)
+
 -- ---- fits
 
 mag-le-abs : (z : ℤ) → mag z ≤ natAbs z

@@ -184,10 +184,18 @@ mag-round (negsuc a) (negsuc x) d h p =
 pub round-fits : {w : Width} (n : ℤ) (d : ℕ) → 0 < d → SFits w n → SFits w (roundEven n d)
 round-fits n d h f = sfits-le (mag-round n (roundEven n d) d h (round-is n d h .near)) f
 
+pub round-size : (n : ℤ) (d : ℕ) → 0 < d → natAbs (roundEven n d) ≤ natAbs n + 1
+round-size n d h = omega (arith, mag-round n (roundEven n d) d h (round-is n d h .near), near-mag n, near-mag (roundEven n d))
+  where
+    near-mag : (z : ℤ) → (mag z ≤ natAbs z) × (natAbs z ≤ mag z + 1)
+    near-mag (pos a) = (omega arith, omega arith)
+    near-mag (negsuc a) = (omega arith, omega arith)
+
 -- ---- the divisor that a number stands for
 
-pub divisor-in : (d : ℕ) → 1 ≤ d → d ≤ 4000000000000000000 → divisor (pos d) ≡ d
-divisor-in d h k = omega arith
+pub divisor-in : (d : ℤ) → pos 1 ≤ℤ d → natAbs d ≤ 4000000000000000000 → divisor d ≡ natAbs d
+divisor-in (pos d) h k = omega ints
+divisor-in (negsuc d) h k = absurd (h .le)
 
 pub divisor-range : (d : ℤ) → (1 ≤ divisor d) × (divisor d ≤ 4000000000000000000)
 divisor-range (pos d) = (omega arith, omega arith)

@@ -1,0 +1,74 @@
+-- One to 64 sections in the wider range between known heights: the sizes of ΣQ, L and W, and that a line is at least 1 long.
+use mathlib.Core.Path.{_≡_, refl, sym, ap, subst, _∙_}
+use mathlib.Core.Bool.{Bool, true, false, not, _&&_, _||_}
+use mathlib.Core.List.{List, [], _∷_}
+use Prim.Native.Nat.{ℕ, suc, _+_, _*_, _≤_, _<_}
+use native.Mathlib.Omega.{arith}
+use lib.Dec.{leb, ltb, leb→le, ltb→lt}
+use lib.ListN.{length}
+use lib.IntN.{ℤ, pos, negℤ, natAbs, _+ℤ_, _-ℤ_, _*ℤ_}
+use lib.Signed.{_≤ℤ_, leZ}
+use Rattle.numbers.proofs.Tests.{holds, and-l, and-r, or-l, or-r, not-true, not-false}
+use Rattle.numbers.proofs.Parts.{ints, parts-add, parts-abs, test-le}
+use Rattle.numbers.proofs.Sizes.{abs-add}
+use Rattle.numbers.proofs.Chain.{plain, literal, add, sub, mul}
+use Rattle.adjust.specs.declared.Section.{Section}
+use Rattle.adjust.specs.declared.Sections.{Sections}
+use Rattle.adjust.specs.Sections.{sectionsOf, anyOutside, misfit, heightInRange}
+use Rattle.adjust.specs.Line.{lineHeight, lineLength, closure}
+use Rattle.adjust.specs.Frames.{figuresFit}
+use Rattle.adjust.specs.Bounds.{Fits, Fitted, Between, Framed}
+use Rattle.adjust.proofs.Lists.{Fit, fit-head, fit-tail, fitted-legs, from-length}
+
+pub height-size : (xs : List Section) → Fit xs → natAbs (lineHeight xs) ≤ 50000000 * length xs
+height-size [] f = omega arith
+height-size (x ∷ xs) f = omega (arith, abs-add (x .height) (lineHeight xs), fit-head x xs f .height, height-size xs (fit-tail x xs f))
+
+pub length-size : (xs : List Section) → Fit xs → natAbs (lineLength xs) ≤ 1200000 * length xs
+length-size [] f = omega arith
+length-size (x ∷ xs) f = omega (arith, abs-add (x .distance) (lineLength xs), fit-head x xs f .distance, length-size xs (fit-tail x xs f))
+
+-- as long as it has sections
+pub long : (xs : List Section) → Fit xs → pos (length xs) ≤ℤ lineLength xs
+long [] f = omega ints
+long (x ∷ xs) f = omega (ints, parts-add (x .distance) (lineLength xs), fit-head x xs f .long, long xs (fit-tail x xs f))
+
+pub in-range : (h : ℤ) → heightInRange h ≡ true → natAbs h ≤ 8999999
+in-range h e =
+    let low : negℤ (pos 999999) ≤ℤ h = test-le (and-l (leZ (negℤ (pos 999999)) h) (leZ h (pos 8999999)) e) in
+    let high : h ≤ℤ pos 8999999 = test-le (and-r (leZ (negℤ (pos 999999)) h) (leZ h (pos 8999999)) e) in
+    omega (ints, parts-abs h)
+
+module _ {start end : ℤ} {s : Sections} (b : Between start end s) where
+  pub framed : Framed (record { start = start; closing = closure start end (sectionsOf s); total = lineLength (sectionsOf s) })
+  framed =
+      let n = from-length s 0 (s .count) in
+      let h : natAbs (lineHeight (sectionsOf s)) ≤ 3200000000 = omega (arith, n, height-size (sectionsOf s) (b .fits .legs), b .fits .few) in
+      record {
+        start = b .start-size;
+        closing = sub (add (mul (literal (pos 4)) (plain start (b .start-size))) (plain (lineHeight (sectionsOf s)) h)) (mul (literal (pos 4)) (plain end (b .end-size))) .size;
+        total = omega (arith, n, length-size (sectionsOf s) (b .fits .legs), b .fits .few);
+        long = omega (ints, n, long (sectionsOf s) (b .fits .legs), b .some);
+      }
+
+-- ---- figures that fit
+
+pub fitting : (start end : ℤ) (s : Sections) → figuresFit start end (sectionsOf s) ≡ true → Between start end s × Fitted s
+unfolding figuresFit
+fitting start end s e =
+    let ss = sectionsOf s in
+    let n = from-length s 0 (s .count) in
+    let some-test = ltb 0 (length ss) in
+    let fit-test = not (misfit ss) in
+    let heights = and-l (some-test && fit-test && heightInRange start) (heightInRange end) e in
+    let sections = and-l (some-test && fit-test) (heightInRange start) heights in
+    let fit = not-true (misfit ss) (and-r some-test fit-test sections) in
+    let inside = or-r (not (leb (length ss) 64)) (anyOutside false ss) fit in
+    let few : s .count ≤ 64 = omega (arith, n, leb→le (length ss) 64 (holds (not-false (leb (length ss) 64) (or-l (not (leb (length ss) 64)) (anyOutside false ss) fit)))) in
+    (record {
+      some = omega (arith, n, ltb→lt 0 (length ss) (holds (and-l some-test fit-test sections)));
+      fits = record { few = few; legs = fitted-legs ss inside };
+      start-size = in-range start (and-r (some-test && fit-test) (heightInRange start) heights);
+      end-size = in-range end (and-r (some-test && fit-test && heightInRange start) (heightInRange end) e);
+    },
+    record { few = few; sections = inside })

@@ -1,0 +1,43 @@
+-- `figures_fit` meets its contract, test by test.
+use mathlib.Core.Path.{_≡_, sym, ap, _∙_}
+use mathlib.Core.Bool.{not, _&&_}
+use Prim.Native.Nat.{ℕ}
+use lib.Dec.{ltb}
+use Rattle.numbers.proofs.Machine.{stored-id}
+use Rattle.adjust.specs.Sections.{heightInRange}
+use Rattle.adjust.specs.Frames.{figuresFit}
+use Rattle.adjust.proofs.Lists.{from-length}
+use borrow.Author.Needs.{needs}
+use Rattle.adjust.proofs.figures_fit.Statement.{statement}
+use Rattle.adjust.proofs.figures_fit.Tie as tie
+use Rattle.adjust.proofs.figures_fit.Reads as reads
+use Rattle.adjust.proofs.figures_fit.Lts as lts
+use Rattle.adjust.proofs.height_in_range.Reads as height-in-range-reads
+use Rattle.adjust.proofs.table.misfits.Reads as misfits-reads
+
+-- src/lib.rt:75:22
+misfits-requires : tie.Need-misfits-requires
+misfits-requires c κs = search needs
+
+-- src/lib.rt:75:42
+height-in-range-requires : tie.Need-height-in-range-requires
+height-in-range-requires c κs = search needs
+
+-- src/lib.rt:75:67
+height-in-range-requires-2 : tie.Need-height-in-range-requires-2
+height-in-range-requires-2 c κs = search needs
+
+-- src/lib.rt:72:1
+returns : tie.Need-returns
+unfolding figuresFit
+returns c =
+    let m = c .before .before in
+    let s = m .before .before in
+    let start = c .before .height-in-range .ensures ∙ ap heightInRange (stored-id (s .fits .start)) in
+    let end = c .height-in-range2 .ensures ∙ ap heightInRange (stored-id (s .fits .end)) in
+    λ i. ltb 0 (sym (from-length (s .args .s) 0 (s .args .s .count)) i) && not (m .misfits .ensures i) && start i && end i
+
+pub figures-fit-spec : {M : Type 1} → statement M
+figures-fit-spec =
+    tie.close
+    (tie.spec misfits-requires height-in-range-requires height-in-range-requires-2 returns)

@@ -1,0 +1,54 @@
+-- What keeps the figures of a line in 64 bits: bounds that the code's private functions ask for. No rule of document 01.
+use mathlib.Core.Path.{_≡_}
+use mathlib.Core.Bool.{false, not}
+use mathlib.Core.List.{List}
+use Prim.Native.Nat.{ℕ, _*_, _≤_}
+use lib.IntN.{ℤ, pos, natAbs}
+use lib.Signed.{_≤ℤ_}
+use Rattle.numbers.specs.Whole.{anyOf}
+use Rattle.adjust.specs.declared.Section.{Section}
+use Rattle.adjust.specs.declared.Sections.{Sections}
+use Rattle.adjust.specs.declared.sums.Sums.{Sums}
+use Rattle.adjust.specs.declared.heights.Known.{Known}
+use Rattle.adjust.specs.declared.heights.Progress.{Progress}
+use Rattle.adjust.specs.Sections.{sectionsOf, legFits, anyOutside}
+
+-- at most 64 sections, Q and R of each in the wider range
+pub record Fits (s : Sections) : Type 0 where
+  pub few : s .count ≤ 64
+  pub legs : anyOf (λ (x : Section). not (legFits x)) (sectionsOf s) ≡ false
+
+-- and D too
+pub record Fitted (s : Sections) : Type 0 where
+  pub few : s .count ≤ 64
+  pub sections : anyOutside false (sectionsOf s) ≡ false
+
+-- at least one section, and both known heights in their range
+pub record Between (start end : ℤ) (s : Sections) : Type 0 where
+  pub some : 1 ≤ s .count
+  pub fits : Fits s
+  pub start-size : natAbs start ≤ 8999999
+  pub end-size : natAbs end ≤ 8999999
+
+pub record Leg (x : Section) : Type 0 where
+  pub height : natAbs (x .height) ≤ 50000000
+  pub long : pos 1 ≤ℤ x .distance
+  pub distance : natAbs (x .distance) ≤ 1200000
+
+-- the sums of up to k sections
+pub record Summed (k : ℕ) (t : Sums) : Type 0 where
+  pub height : natAbs (t .height) ≤ 50000000 * k
+  pub distance : natAbs (t .distance) ≤ 1200000 * k
+
+-- the known heights, and W and L, of up to 64 sections
+pub record Framed (f : Known) : Type 0 where
+  pub start : natAbs (f .start) ≤ 8999999
+  pub closing : natAbs (f .closing) ≤ 3271999992
+  pub total : natAbs (f .total) ≤ 76800000
+  pub long : pos 1 ≤ℤ f .total
+
+-- the running sums and the last height after k of up to 64 sections
+pub record Reached (k : ℕ) (w : Progress) : Type 0 where
+  pub height : natAbs (w .height) ≤ 50000000 * k
+  pub distance : natAbs (w .point .distance) ≤ 1200000 * k
+  pub printed : natAbs (w .point .height) ≤ 499999999999999999

@@ -1,0 +1,17 @@
+-- Arrays that hold a list and one value behind it: their length, one element more, and what stands in a place.
+use mathlib.Core.Path.{_≡_, refl, sym, ap, _∙_}
+use mathlib.Core.List.{List, [], _∷_, _++_}
+use Prim.Native.Nat.{ℕ, zero, suc, _+_, _<_, _≤_}
+use native.Mathlib.Omega.{arith}
+use lib.ListN.{length, getD, set}
+use Rattle.numbers.specs.Whole.{filled}
+
+pub filled-length : {A : Type 0} (a : A) (n : ℕ) (xs : List A) → length (filled a n xs) ≡ n
+filled-length a zero xs = refl
+filled-length a (suc n) [] = ap suc (filled-length a n [])
+filled-length a (suc n) (x ∷ xs) = ap suc (filled-length a n xs)
+
+pub filled-set : {A : Type 0} (a : A) (n : ℕ) (xs : List A) (x : A) → length xs < n → set (filled a n xs) (length xs) x ≡ filled a n (xs ++ (x ∷ []))
+filled-set a zero xs x h = absurd (omega arith)
+filled-set a (suc n) [] x h = refl
+filled-set a (suc n) (y ∷ ys) x h = ap (λ (l : List _). y ∷ l) (filled-set a n ys x (omega arith))
