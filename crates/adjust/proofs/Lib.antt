@@ -2,3 +2,4 @@
 pub mod Lists
 pub mod Bounded
 pub mod Sized
+pub mod Over

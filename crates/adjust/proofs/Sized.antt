@@ -4,21 +4,23 @@ use mathlib.Core.Bool.{Bool, true, false, not, _&&_, _||_}
 use mathlib.Core.List.{List, [], _∷_}
 use Prim.Native.Nat.{ℕ, suc, _+_, _*_, _≤_, _<_}
 use native.Mathlib.Omega.{arith}
-use lib.Dec.{leb, ltb, leb→le, ltb→lt}
+use lib.Dec.{leb, ltb, leb→le, ltb→lt, nltb→le}
 use lib.ListN.{length}
 use lib.IntN.{ℤ, pos, negℤ, natAbs, _+ℤ_, _-ℤ_, _*ℤ_}
 use lib.Signed.{_≤ℤ_, leZ}
-use Rattle.numbers.proofs.Tests.{holds, and-l, and-r, or-l, or-r, not-true, not-false}
+use Rattle.numbers.proofs.Tests.{holds, fails, and-l, and-r, or-l, or-r, not-true, not-false}
 use Rattle.numbers.proofs.Parts.{ints, parts-add, parts-abs, test-le}
 use Rattle.numbers.proofs.Sizes.{abs-add}
+use Rattle.numbers.proofs.Tables.{all-fail}
 use Rattle.numbers.proofs.Chain.{plain, literal, add, sub, mul}
 use Rattle.adjust.specs.declared.Section.{Section}
 use Rattle.adjust.specs.declared.Sections.{Sections}
 use Rattle.adjust.specs.Sections.{sectionsOf, anyOutside, misfit, heightInRange}
 use Rattle.adjust.specs.Line.{lineHeight, lineLength, closure}
 use Rattle.adjust.specs.Frames.{figuresFit}
+use Rattle.adjust.specs.Call.{adjustTests, adjustRefusal}
 use Rattle.adjust.specs.Bounds.{Fits, Fitted, Between, Framed}
-use Rattle.adjust.proofs.Lists.{Fit, fit-head, fit-tail, fitted-legs, from-length}
+use Rattle.adjust.proofs.Lists.{Fit, fit-head, fit-tail, fitted-legs, strict-legs, from-length}
 
 pub height-size : (xs : List Section) → Fit xs → natAbs (lineHeight xs) ≤ 50000000 * length xs
 height-size [] f = omega arith
@@ -64,11 +66,35 @@ fitting start end s e =
     let sections = and-l (some-test && fit-test) (heightInRange start) heights in
     let fit = not-true (misfit ss) (and-r some-test fit-test sections) in
     let inside = or-r (not (leb (length ss) 64)) (anyOutside false ss) fit in
-    let few : s .count ≤ 64 = omega (arith, n, leb→le (length ss) 64 (holds (not-false (leb (length ss) 64) (or-l (not (leb (length ss) 64)) (anyOutside false ss) fit)))) in
-    (record {
-      some = omega (arith, n, ltb→lt 0 (length ss) (holds (and-l some-test fit-test sections)));
-      fits = record { few = few; legs = fitted-legs ss inside };
-      start-size = in-range start (and-r (some-test && fit-test) (heightInRange start) heights);
-      end-size = in-range end (and-r (some-test && fit-test && heightInRange start) (heightInRange end) e);
-    },
-    record { few = few; sections = inside })
+    let few : s .count ≤ 64 = omega (arith, n, leb→le (length ss) 64 (holds (not-false (leb (length ss) 64) (or-l (not (leb (length ss) 64)) (anyOutside false ss) fit)))) in (
+      record {
+        some = omega (arith, n, ltb→lt 0 (length ss) (holds (and-l some-test fit-test sections)));
+        fits = record { few = few; legs = fitted-legs ss inside };
+        start-size = in-range start (and-r (some-test && fit-test) (heightInRange start) heights);
+        end-size = in-range end (and-r (some-test && fit-test && heightInRange start) (heightInRange end) e);
+      },
+      record { few = few; sections = inside },
+    )
+
+-- ---- an adjustment that is not refused
+
+pub adjustable : (start end : ℤ) (s : Sections) (places : ℕ) → adjustRefusal start end (sectionsOf s) places ≡ 0 → Between start end s × (s .count ≤ places)
+unfolding adjustRefusal
+adjustable start end s places e =
+    let ss = sectionsOf s in
+    let n = from-length s 0 (s .count) in
+    let f = all-fail (adjustTests start end ss places) refl e in
+    let count = not-false (ltb 0 (length ss) && leb (length ss) 64) (f .0) in
+    let heights = not-false (heightInRange start && heightInRange end) (f .1 .1 .1 .0) in (
+      record {
+        some = omega (arith, n, ltb→lt 0 (length ss) (holds (and-l (ltb 0 (length ss)) (leb (length ss) 64) count)));
+        fits =
+            record {
+              few = omega (arith, n, leb→le (length ss) 64 (holds (and-r (ltb 0 (length ss)) (leb (length ss) 64) count)));
+              legs = strict-legs ss (f .1 .1 .0);
+            };
+        start-size = in-range start (and-l (heightInRange start) (heightInRange end) heights);
+        end-size = in-range end (and-r (heightInRange start) (heightInRange end) heights);
+      },
+      omega (arith, n, nltb→le places (length ss) (fails (f .1 .0))),
+    )

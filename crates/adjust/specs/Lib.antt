@@ -3,3 +3,4 @@ pub mod Line
 pub mod Claims
 pub mod Frames
 pub mod Bounds
+pub mod Call

@@ -7,8 +7,9 @@ ghost use Rattle.numbers.specs.Whole.{sum};
 ghost use Rattle.adjust.specs.Sections.{sectionsOf};
 ghost use Rattle.adjust.specs.Line.{accidental, accidentalSum, verdict};
 ghost use Rattle.adjust.specs.Bounds.{Fitted, Leg};
+use super::Section;
+use super::Sections;
 use super::table::section_at;
-use super::{Section, Sections};
 use roots::rounding::round_half_even;
 use station::Order;
 

@@ -8,9 +8,11 @@ ghost use Rattle.adjust.specs.Sections.{sectionsOf};
 ghost use Rattle.adjust.specs.Line.{closure, lineLength, exactTop, printedHeight, pointAfter, points};
 ghost use Rattle.adjust.specs.Frames.{frame, noPoint};
 ghost use Rattle.adjust.specs.Bounds.{Fits, Between, Leg, Framed, Reached};
+use super::Point;
+use super::Section;
+use super::Sections;
 use super::sums::sums_of;
 use super::table::section_at;
-use super::{Point, Section, Sections};
 use roots::rounding::round_half_even;
 
 // What the heights of a line are computed from: the start height in mm, W in quarter mm, L in half dm.

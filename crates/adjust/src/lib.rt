@@ -4,10 +4,13 @@ ghost use Rattle.adjust.specs.Sections.{sectionsOf, heightInRange};
 ghost use Rattle.adjust.specs.Frames.{figuresFit, totalsIfFit, adjustedOf, nothing, adjustedIfFit};
 ghost use Rattle.adjust.specs.Line.{closing};
 ghost use Rattle.adjust.specs.Bounds.{Between, Fitted};
-pub mod table;
-mod sums;
-mod heights;
+
 mod accidental;
+pub mod call;
+mod heights;
+mod sums;
+pub mod table;
+
 use station::Order;
 
 pub struct Benchmark {
@@ -56,13 +59,19 @@ pub struct Adjusted {
     pub points: [Point; 65],
 }
 
+// A call's answer.
+pub enum Answer {
+    Taken,
+    Refused(u8),
+}
+
 // W in quarter mm and L in half dm.
 pub struct Totals {
     pub closure: i64,
     pub distance: i64,
 }
 
-fn height_in_range(h: i64) -> bool
+pub(crate) fn height_in_range(h: i64) -> bool
     ensures { λ r. ⌜ r ≡ heightInRange h ⌝ }
 {
     (-999999 <= h) & (h <= 8999999)

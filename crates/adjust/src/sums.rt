@@ -5,8 +5,9 @@ ghost use lib.IntN.{_+ℤ_};
 ghost use Rattle.adjust.specs.Sections.{sectionsOf};
 ghost use Rattle.adjust.specs.Line.{lineHeight, lineLength};
 ghost use Rattle.adjust.specs.Bounds.{Fits, Leg, Summed};
+use super::Section;
+use super::Sections;
 use super::table::section_at;
-use super::{Section, Sections};
 
 pub(crate) struct Sums {
     pub(crate) height: i64,
@@ -28,7 +29,10 @@ pub(crate) fn sums_of(s: Sections) -> Sums
     ensures { λ r. ⌜ r ≡ record { height = lineHeight (sectionsOf s); distance = lineLength (sectionsOf s) } ⌝ }
 {
     let count = s.count;
-    let mut t = Sums { height: 0, distance: 0 };
+    let mut t = Sums {
+        height: 0,
+        distance: 0,
+    };
     let mut k = 0;
     while k < count {
         t = with_section(t, section_at(s, k));

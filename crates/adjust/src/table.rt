@@ -3,7 +3,8 @@ ghost use mathlib.Core.Path.{_≡_};
 ghost use mathlib.Core.Bool.{not, cond};
 ghost use Prim.Native.Nat.{_<_, _≤_};
 ghost use Rattle.adjust.specs.Sections.{sectionAt, sectionsOf, legInRange, sectionFits, anyOutside, misfit};
-use super::{Section, Sections};
+use super::Section;
+use super::Sections;
 use roots::limits::magnitude;
 
 // The section in place k.

@@ -1,9 +1,9 @@
--- Arrays that hold a list and one value behind it: their length, one element more, and what stands in a place.
-use mathlib.Core.Path.{_≡_, refl, sym, ap, _∙_}
+-- Arrays that hold a list and one value behind it: their length, one element more, and the list back again.
+use mathlib.Core.Path.{_≡_, refl, ap}
 use mathlib.Core.List.{List, [], _∷_, _++_}
-use Prim.Native.Nat.{ℕ, zero, suc, _+_, _<_, _≤_}
+use Prim.Native.Nat.{ℕ, zero, suc, _<_, _≤_}
 use native.Mathlib.Omega.{arith}
-use lib.ListN.{length, getD, set}
+use lib.ListN.{length, set, take}
 use Rattle.numbers.specs.Whole.{filled}
 
 pub filled-length : {A : Type 0} (a : A) (n : ℕ) (xs : List A) → length (filled a n xs) ≡ n
@@ -15,3 +15,9 @@ pub filled-set : {A : Type 0} (a : A) (n : ℕ) (xs : List A) (x : A) → length
 filled-set a zero xs x h = absurd (omega arith)
 filled-set a (suc n) [] x h = refl
 filled-set a (suc n) (y ∷ ys) x h = ap (λ (l : List _). y ∷ l) (filled-set a n ys x (omega arith))
+
+-- the list itself is the array's front
+pub filled-take : {A : Type 0} (a : A) (n : ℕ) (xs : List A) → length xs ≤ n → take (length xs) (filled a n xs) ≡ xs
+filled-take a n [] h = refl
+filled-take a zero (x ∷ xs) h = absurd (omega arith)
+filled-take a (suc n) (x ∷ xs) h = ap (λ (l : List _). x ∷ l) (filled-take a n xs (omega arith))

@@ -13,17 +13,10 @@ use Rattle.adjust.proofs.Sized.{fitting}
 use borrow.Author.Needs.{needs}
 use Rattle.adjust.proofs.adjusted_line.Statement.{statement}
 use Rattle.adjust.proofs.adjusted_line.Tie as tie
-use Rattle.adjust.proofs.adjusted_line.Reads as reads
-use Rattle.adjust.proofs.adjusted_line.Lts as lts
-use Rattle.adjust.proofs.closing_of.Reads as closing-of-reads
-use Rattle.adjust.proofs.figures_fit.Reads as figures-fit-reads
-use Rattle.adjust.proofs.no_line.Reads as no-line-reads
 
--- src/lib.rt:121:8
 figures-fit-requires : tie.Need-figures-fit-requires
 figures-fit-requires c κs = search needs
 
--- src/lib.rt:122:9
 abbrev test : tie.Start → Bool
 test s = figuresFit (s .args .start .height) (s .args .end) (sectionsOf (s .args .s))
 
@@ -47,7 +40,6 @@ closing-of-requires c κs =
     let f = fitting (s .args .start .height) (s .args .end) (s .args .s) (sym (tested (c .before)) ∙ c .if1 .taken) in
     (subst (λ (z : ℤ). Between (s .args .start .height) z (s .args .s)) (sym (stored-id (s .fits .end))) (f .0), f .1)
 
--- src/lib.rt:122:9
 returns : tie.Need-returns
 returns c =
     let s = c .before .before .before .before in
@@ -55,11 +47,9 @@ returns c =
     ∙ ap (λ (z : ℤ). adjustedOf (closing (s .args .order) (s .args .start) z (sectionsOf (s .args .s)))) (stored-id (s .fits .end))
     ∙ chosen s true (sym (tested (c .before .before)) ∙ c .before .if1 .taken)
 
--- src/lib.rt:124:5
 no-line-requires : tie.Need-no-line-requires
 no-line-requires c κs = search needs
 
--- src/lib.rt:118:1
 returns-2 : tie.Need-returns-2
 returns-2 c =
     let s = c .before .before .before .before in

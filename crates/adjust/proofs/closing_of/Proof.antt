@@ -21,26 +21,16 @@ use Rattle.adjust.proofs.Sized.{framed}
 use borrow.Author.Needs.{needs}
 use Rattle.adjust.proofs.closing_of.Statement.{statement}
 use Rattle.adjust.proofs.closing_of.Tie as tie
-use Rattle.adjust.proofs.closing_of.Reads as reads
-use Rattle.adjust.proofs.closing_of.Lts as lts
-use Rattle.adjust.proofs.accidental.accidental_sum.Reads as accidental-sum-reads
-use Rattle.adjust.proofs.accidental.verdict_of.Reads as verdict-of-reads
-use Rattle.adjust.proofs.heights.known_of.Reads as known-of-reads
-use Rattle.adjust.proofs.heights.points_of.Reads as points-of-reads
 
--- src/lib.rt:100:9
 known-of-requires : tie.Need-known-of-requires
 known-of-requires c κs = search needs
 
--- src/lib.rt:101:9
 accidental-sum-requires : tie.Need-accidental-sum-requires
 accidental-sum-requires c κs = search needs
 
--- src/lib.rt:102:9
 verdict-of-requires : tie.Need-verdict-of-requires
 verdict-of-requires c κs = search needs
 
--- src/lib.rt:103:9
 -- W and L, and the heights' frame
 abbrev line : tie.Start → Known
 line s =
@@ -62,7 +52,6 @@ points-of-requires c κs =
     let k = c .before .before .before in
     (subst Framed (sym (known-is k)) (line-framed (k .before .before)), k .before .before .pre .0 .fits)
 
--- src/lib.rt:96:1
 number-fits : (s : tie.Start) → SFits w64 (s .args .start .number)
 number-fits s = search needs
 

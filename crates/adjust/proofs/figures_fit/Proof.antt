@@ -10,24 +10,16 @@ use Rattle.adjust.proofs.Lists.{from-length}
 use borrow.Author.Needs.{needs}
 use Rattle.adjust.proofs.figures_fit.Statement.{statement}
 use Rattle.adjust.proofs.figures_fit.Tie as tie
-use Rattle.adjust.proofs.figures_fit.Reads as reads
-use Rattle.adjust.proofs.figures_fit.Lts as lts
-use Rattle.adjust.proofs.height_in_range.Reads as height-in-range-reads
-use Rattle.adjust.proofs.table.misfits.Reads as misfits-reads
 
--- src/lib.rt:75:22
 misfits-requires : tie.Need-misfits-requires
 misfits-requires c κs = search needs
 
--- src/lib.rt:75:42
 height-in-range-requires : tie.Need-height-in-range-requires
 height-in-range-requires c κs = search needs
 
--- src/lib.rt:75:67
 height-in-range-requires-2 : tie.Need-height-in-range-requires-2
 height-in-range-requires-2 c κs = search needs
 
--- src/lib.rt:72:1
 returns : tie.Need-returns
 unfolding figuresFit
 returns c =

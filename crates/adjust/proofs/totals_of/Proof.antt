@@ -15,16 +15,10 @@ use Rattle.adjust.proofs.Sized.{fitting, framed}
 use borrow.Author.Needs.{needs}
 use Rattle.adjust.proofs.totals_of.Statement.{statement}
 use Rattle.adjust.proofs.totals_of.Tie as tie
-use Rattle.adjust.proofs.totals_of.Reads as reads
-use Rattle.adjust.proofs.totals_of.Lts as lts
-use Rattle.adjust.proofs.figures_fit.Reads as figures-fit-reads
-use Rattle.adjust.proofs.heights.known_of.Reads as known-of-reads
 
--- src/lib.rt:82:8
 figures-fit-requires : tie.Need-figures-fit-requires
 figures-fit-requires c κs = search needs
 
--- src/lib.rt:83:13
 abbrev test : tie.Start → Bool
 test s = figuresFit (s .args .start) (s .args .end) (sectionsOf (s .args .s))
 
@@ -41,14 +35,13 @@ known-of-requires c κs =
     let s = c .before .before in
     holds-stored (λ x y. Between x y (s .args .s)) (s .fits .start) (s .fits .end) (between c)
 
--- src/lib.rt:84:9
 returns : tie.Need-returns
 unfolding totalsIfFit
 returns c =
     let k = c .before in
     let s = k .before .before .before in
     let e = k .known-of .ensures
-        ∙ stored-both (λ x y. record { start = x; closing = closure x y (sectionsOf (s .args .s)); total = lineLength (sectionsOf (s .args .s)) }) (s .fits .start) (s .fits .end) in
+    ∙ stored-both (λ x y. record { start = x; closing = closure x y (sectionsOf (s .args .s)); total = lineLength (sectionsOf (s .args .s)) }) (s .fits .start) (s .fits .end) in
     let b = framed (between (k .before)) in
     let w = known (k .known-of .result .closing) {k = 3271999992} (subst (λ (f : Known). natAbs (f .closing) ≤ 3271999992) (sym e) (b .closing)) tt .is in
     let l = known (k .known-of .result .total) {k = 76800000} (subst (λ (f : Known). natAbs (f .total) ≤ 76800000) (sym e) (b .total)) tt .is in
@@ -56,7 +49,6 @@ returns c =
     ∙ sym (ap (λ (t : Bool). cond t (record { closure = closure (s .args .start) (s .args .end) (sectionsOf (s .args .s)); distance = lineLength (sectionsOf (s .args .s)) })
     (record { closure = pos 0; distance = pos 0 })) (sym (tested (k .before .before)) ∙ k .before .if1 .taken))
 
--- src/lib.rt:79:1
 returns-2 : tie.Need-returns-2
 unfolding totalsIfFit
 returns-2 c =

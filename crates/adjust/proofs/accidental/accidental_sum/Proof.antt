@@ -9,30 +9,22 @@ use Rattle.adjust.specs.Line.{accidentalSum}
 use borrow.Author.Needs.{needs}
 use Rattle.adjust.proofs.accidental.accidental_sum.Statement.{statement}
 use Rattle.adjust.proofs.accidental.accidental_sum.Tie as tie
-use Rattle.adjust.proofs.accidental.accidental_sum.Reads as reads
-use Rattle.adjust.proofs.accidental.accidental_sum.Lts as lts
-use Rattle.adjust.proofs.accidental.squares_of.Reads as squares-of-reads
 
--- src/accidental.rt:52:25
 enum-told : tie.Need-enum-told
 enum-told c = search needs
 
--- src/accidental.rt:52:25
 squares-of-requires : tie.Need-squares-of-requires
 squares-of-requires c κs = search needs
 
--- src/accidental.rt:53:26
 enum-told-2 : tie.Need-enum-told-2
 enum-told-2 c = search needs
 
--- src/accidental.rt:47:1
 returns : tie.Need-returns
 returns c =
     let s = c .before .before .before in
     let f : SFits w64 (c .squares-of .result) = record { sfits = c .squares-of .ok } in
     stored-id f ∙ c .squares-of .ensures ∙ sym (ap (λ (o : Order). accidentalSum o (sectionsOf (s .args .s))) (c .before .enum-told .given .1))
 
--- src/accidental.rt:47:1
 returns-2 : tie.Need-returns-2
 returns-2 c =
     let s = c .before .before in

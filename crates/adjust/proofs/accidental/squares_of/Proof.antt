@@ -80,10 +80,11 @@ with-square-requires c κs =
     let g = l .loop .inv in
     let few = l .before .pre .few in
     let here = c .before .loop-test .taken in
-    let x = sym (c .section-at .ensures) in
-    (omega (arith, g .small, g .place),
-    subst (λ (y : Section). natAbs (y .discrepancy) ≤ 100000) x (discrepancy here g),
-    subst Leg x (leg here g))
+    let x = sym (c .section-at .ensures) in (
+      omega (arith, g .small, g .place),
+      subst (λ (y : Section). natAbs (y .discrepancy) ≤ 100000) x (discrepancy here g),
+      subst Leg x (leg here g),
+    )
 
 add-k : tie.Need-add-k Inv-loop μ-loop
 add-k c = omega arith

@@ -34,10 +34,11 @@ add-s c = fits (distance (c .before .before .before .before .before .before .bef
 
 printed-height-requires : tie.Need-printed-height-requires
 printed-height-requires c κs =
-    let s = c .before .before .before .before .before .before .before .before in
-    (s .pre .0,
-    subst (λ (z : ℤ). natAbs z ≤ 3200000000) (sym (kept (height s) tt .is)) (height s .size),
-    subst (λ (z : ℤ). natAbs z ≤ 76800000) (sym (kept (distance s) tt .is)) (distance s .size))
+    let s = c .before .before .before .before .before .before .before .before in (
+      s .pre .0,
+      subst (λ (z : ℤ). natAbs z ≤ 3200000000) (sym (kept (height s) tt .is)) (height s .size),
+      subst (λ (z : ℤ). natAbs z ≤ 76800000) (sym (kept (distance s) tt .is)) (distance s .size),
+    )
 
 start : tie.After-printed-height → tie.Start
 start c = c .before .before .before .before .before .before .before .before .before
@@ -101,7 +102,7 @@ returns c =
     let x = s .args .x in
     let h = known (p .printed-height .result) (result-size p) tt .is ∙ printed-is p in
     let fixed = kept (correction p) tt .is
-        ∙ (λ i. pos 4 *ℤ (printed-is p i -ℤ s .args .w .point .height) -ℤ sym (one-mulℤ (x .height)) i) in
+    ∙ (λ i. pos 4 *ℤ (printed-is p i -ℤ s .args .w .point .height) -ℤ sym (one-mulℤ (x .height)) i) in
     λ i.
     record {
       height = kept (height s) tt .is i;

@@ -149,7 +149,7 @@ returns c =
     let f = s .args .f in
     let g = l .loop .inv in
     let none = ap (λ (xs : List Section). g .done ++ pointsAfter (frame f) (l .loop .w .height) (l .loop .w .point .distance) (l .loop .w .point .height) xs)
-        (none-remain (s .args .s) (l .loop .k) (c .loop-test .left)) in
+    (none-remain (s .args .s) (l .loop .k) (c .loop-test .left)) in
     g .held
     ∙ ap (filled noPoint 65)
     (sym (append-nil (g .done)) ∙ sym none ∙ g .whole ∙ ap (λ (n : ℤ). points (frame f) n (sectionsOf (s .args .s))) (stored-id (s .fits .number)))

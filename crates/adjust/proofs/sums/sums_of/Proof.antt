@@ -74,9 +74,10 @@ with-section-requires : tie.Need-with-section-requires Inv-loop μ-loop
 with-section-requires c κs =
     let l = c .before .before in
     let g = l .loop .inv in
-    let few = l .before .pre .few in
-    (record { height = omega (arith, g .small .height, g .place); distance = omega (arith, g .small .distance, g .place) },
-    subst Leg (sym (c .section-at .ensures)) (leg-here (c .before .loop-test .taken) g))
+    let few = l .before .pre .few in (
+      record { height = omega (arith, g .small .height, g .place); distance = omega (arith, g .small .distance, g .place) },
+      subst Leg (sym (c .section-at .ensures)) (leg-here (c .before .loop-test .taken) g),
+    )
 
 add-k : tie.Need-add-k Inv-loop μ-loop
 add-k c = omega arith

@@ -1,0 +1,119 @@
+-- `adjust` meets its contract: a refusal leaves the list as it was, and a call that is taken writes one height a section.
+use mathlib.Core.Path.{_≡_, refl, sym, ap, subst, _∙_}
+use mathlib.Core.List.{List, [], _∷_, map}
+use Prim.Native.Nat.{ℕ, suc, _≤_}
+use native.Mathlib.Omega.{arith}
+use lib.ListN.{length, take, drop}
+use lib.IntN.{ℤ, pos, _+ℤ_}
+use borrow.Author.Needs.{needs}
+use Rattle.numbers.specs.Whole.{filled}
+use Rattle.numbers.proofs.Filled.{filled-take}
+use Rattle.numbers.proofs.Tables.{zero-cond, nonzero-cond}
+use Rattle.numbers.proofs.Machine.{stored-both, holds-stored}
+use Rattle.adjust.specs.declared.Point.{Point}
+use Rattle.adjust.specs.declared.Section.{Section}
+use Rattle.adjust.specs.declared.Answer.the-variants.{Taken, Refused}
+use Rattle.adjust.specs.declared.heights.Known.{Known}
+use Rattle.adjust.specs.Sections.{sectionsOf, over}
+use Rattle.adjust.specs.Line.{Frame, frameOf, closure, lineLength, printedHeight, pointsAfter, sectionPoints, points}
+use Rattle.adjust.specs.Frames.{frame, noPoint}
+use Rattle.adjust.specs.Call.{adjustRefusal, adjustedHeights, heightsAfter}
+use Rattle.adjust.specs.Bounds.{Between, Framed}
+use Rattle.adjust.proofs.Lists.{from-length}
+use Rattle.adjust.proofs.Sized.{framed, adjustable}
+use Rattle.adjust.proofs.call.adjust.Statement.{statement}
+use Rattle.adjust.proofs.call.adjust.Tie as tie
+
+-- ---- one height a section
+
+points-length : (f : Frame) (q s h : ℤ) (xs : List Section) → length (pointsAfter f q s h xs) ≡ length xs
+points-length f q s h [] = refl
+points-length f q s h (x ∷ xs) = ap suc (points-length f (q +ℤ x .height) (s +ℤ x .distance) (printedHeight f (q +ℤ x .height) (s +ℤ x .distance)) xs)
+
+-- the heights behind the first point of the array
+behind : (f : Frame) (ss : List Section) (n : ℕ) → length ss ≡ n → n ≤ 64
+    → map (λ (p : Point). p .height) (take n (drop 1 (filled noPoint 65 (points f (pos 0) ss)))) ≡ map (λ (p : Point). p .height) (sectionPoints f ss)
+behind f ss n e h =
+    let l = points-length f (pos 0) (pos 0) _ ss ∙ e in
+    ap (map (λ (p : Point). p .height))
+    (sym (ap (λ (m : ℕ). take m (filled noPoint 64 (sectionPoints f ss))) l) ∙ filled-take noPoint 64 (sectionPoints f ss) (omega (arith, l)))
+
+-- ---- the needs
+
+abbrev code : tie.Start → ℕ
+code s = adjustRefusal (s .args .start) (s .args .end) (sectionsOf (s .args .s)) (length (s .args .heights .now))
+
+adjust-refusal-requires : tie.Need-adjust-refusal-requires
+adjust-refusal-requires c κs = search needs
+
+number : (c : tie.After-adjust-refusal) → c .adjust-refusal .result ≡ code (c .before)
+number c =
+    let s = c .before in
+    c .adjust-refusal .ensures ∙ stored-both (λ x y. adjustRefusal x y (sectionsOf (s .args .s)) (length (s .args .heights .now))) (s .fits .start) (s .fits .end)
+
+returns : tie.Need-returns
+unfolding heightsAfter
+returns c =
+    let s = c .before .before in
+    let n : code s ≡ 0 → ⊥ = λ e. c .if1 .taken (number (c .before) ∙ e) in (
+      ap Refused (number (c .before)) ∙ sym (nonzero-cond (code s) Taken (Refused (code s)) n),
+      sym (nonzero-cond (code s) (over (adjustedHeights (s .args .start) (s .args .end) (sectionsOf (s .args .s))) (s .args .heights .now)) (s .args .heights .now) n),
+    )
+
+taken : (c : tie.Else1) → code (c .before .before) ≡ 0
+taken c = sym (number (c .before)) ∙ c .if1 .left
+
+between : (c : tie.Else1) → Between (c .before .before .args .start) (c .before .before .args .end) (c .before .before .args .s)
+between c = let s = c .before .before in adjustable (s .args .start) (s .args .end) (s .args .s) (length (s .args .heights .now)) (taken c) .0
+
+known-of-requires : tie.Need-known-of-requires
+known-of-requires c κs =
+    let s = c .before .before in
+    holds-stored (λ x y. Between x y (s .args .s)) (s .fits .start) (s .fits .end) (between c)
+
+abbrev line : tie.Start → Known
+line s =
+    let ss = sectionsOf (s .args .s) in
+    record { start = s .args .start; closing = closure (s .args .start) (s .args .end) ss; total = lineLength ss }
+
+known-is : (c : tie.After-known-of) → c .known-of .result ≡ line (c .before .before .before)
+known-is c =
+    let s = c .before .before .before in
+    let ss = sectionsOf (s .args .s) in
+    c .known-of .ensures ∙ stored-both (λ x y. record { start = x; closing = closure x y ss; total = lineLength ss }) (s .fits .start) (s .fits .end)
+
+points-of-requires : tie.Need-points-of-requires
+points-of-requires c κs = (subst Framed (sym (known-is c)) (framed (between (c .before))), between (c .before) .fits)
+
+put-heights-requires : tie.Need-put-heights-requires
+put-heights-requires c κs =
+    let e = c .before .before .before in
+    let s = e .before .before in
+    (between e .fits .few, adjustable (s .args .start) (s .args .end) (s .args .s) (length (s .args .heights .now)) (taken e) .1)
+
+same-length : tie.Need-same-length
+same-length c = search needs
+
+returns-2 : tie.Need-returns-2
+unfolding heightsAfter
+returns-2 c =
+    let put = c .before in
+    let p = put .before .before in
+    let k = p .before in
+    let e = k .before in
+    let s = e .before .before in
+    let ss = sectionsOf (s .args .s) in
+    let f = frameOf (s .args .start) (s .args .end) ss in
+    let zero = taken e in
+    let shown = p .points-of .ensures ∙ ap (λ (z : Known). filled noPoint 65 (points (frame z) (pos 0) ss)) (known-is k) in (
+      sym (zero-cond (code s) Taken (Refused (code s)) zero),
+      put .put-heights .ensures
+          ∙ ap (λ (xs : List Point). over (map (λ (p : Point). p .height) (take (s .args .s .count) (drop 1 xs))) (s .args .heights .now)) shown
+          ∙ ap (λ (hs : List ℤ). over hs (s .args .heights .now)) (behind f ss (s .args .s .count) (from-length (s .args .s) 0 (s .args .s .count)) (between e .fits .few))
+          ∙ sym (zero-cond (code s) (over (adjustedHeights (s .args .start) (s .args .end) ss) (s .args .heights .now)) (s .args .heights .now) zero),
+    )
+
+pub adjust-spec : {M : Type 1} → statement M
+adjust-spec =
+    tie.close
+    (tie.spec adjust-refusal-requires returns known-of-requires points-of-requires put-heights-requires same-length returns-2)
