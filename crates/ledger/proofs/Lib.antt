@@ -1,0 +1,4 @@
+-- What is proved of every list of calls.
+pub mod Follows
+pub mod Lowest
+pub mod Drops
