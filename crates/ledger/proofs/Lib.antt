@@ -2,3 +2,6 @@
 pub mod Follows
 pub mod Lowest
 pub mod Drops
+pub mod Runs
+pub mod Whole
+pub mod Every
