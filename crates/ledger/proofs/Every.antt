@@ -59,7 +59,7 @@ record Found (r : Reading) (cs : List Call) : Type 0 where
 abbrev NotClosed : Reading → Type 0
 NotClosed r = r .stage ≡ Closed → ⊥
 
--- whoever leaves a line closed that was not
+-- calls that leave a line closed that was not
 abbrev Finds : List Call → Type 0
 Finds cs = (r : Reading) → NotClosed r → after r cs .stage ≡ Closed → Found r cs
 
@@ -81,7 +81,8 @@ behind c cs r e f =
     }
 
 -- behind a call that is no closing
-passed : (c : Call) (cs : List Call) (r : Reading) → given r c ≡ [] → NotClosed r → NotClosed (taken r c) → Finds cs → after r (c ∷ cs) .stage ≡ Closed → Found r (c ∷ cs)
+passed : (c : Call) (cs : List Call) (r : Reading) → given r c ≡ [] → NotClosed r → NotClosed (taken r c) → Finds cs
+    → after r (c ∷ cs) .stage ≡ Closed → Found r (c ∷ cs)
 passed c cs r g n k find e =
     behind c cs r (by-test (eqb (refusal r c) 0) (λ t. cond t (given r c) [] ≡ []) (λ t. g) (λ t. refl)) (find (next r c) (next-open r c n k) e)
 

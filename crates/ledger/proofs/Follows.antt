@@ -16,7 +16,8 @@ use Rattle.book.specs.Rules.{Call, open-line, station, end-run, drop-run, drop-
 use Rattle.ledger.specs.Plain as Plain
 use Rattle.ledger.specs.Plain.{Reading, Levelled, Awaited, runOf, sectionOf, standing, withLists}
 
--- a reading whose order and waiting list are given: what ends a run goes by these two, and a proof by cases takes `recast r (r .order) (r .waiting)`, which is r
+-- a reading with the order and the waiting list given: the end of a run goes by these two, so a proof goes by their cases and is then used
+-- at `recast r (r .order) (r .waiting)`, which is r
 abbrev pub recast : Reading → Order → Option Awaited → Reading
 recast r order waiting =
     record {

@@ -9,10 +9,10 @@ use native.Mathlib.Omega.{arith}
 use borrow.Author.Tests.{le-leb, leb-false}
 use lib.IntN.{ℤ, pos, natAbs, _+ℤ_, _*ℤ_}
 use lib.Signed.{_≤ℤ_, _<ℤ_, ltZ}
-use Rattle.numbers.specs.Whole.{within, between}
+use Rattle.numbers.specs.Whole.{within}
 use Rattle.numbers.proofs.Tests.{and-l, and-r, not-false}
-use Rattle.numbers.proofs.Parts.{ints, parts-add, parts-sub, parts-times, parts-abs, test-lt, leZ-true}
-use Rattle.numbers.proofs.Sizes.{abs-add, abs-sub, abs-mul, square-abs, within-size}
+use Rattle.numbers.proofs.Parts.{ints, parts-add, parts-sub, parts-times, parts-abs, test-lt}
+use Rattle.numbers.proofs.Sizes.{abs-add, abs-sub, abs-mul, square-abs, within-size, within-true, between-true}
 use Rattle.roots.specs.Limit.{isWithin}
 use Rattle.roots.proofs.LimitLaws.{within-le}
 use Rattle.station.specs.declared.Order.{Order}
@@ -79,18 +79,22 @@ figures-sized u f kf h few height back fore difference =
     both : ℤ
     both = f .back .sight +ℤ f .fore .sight
 
+-- by the tests 6 to 8, 22, 24 and 26
 pub station-sized : (v : Standing) (kb kf : ℤ) (readings : List (List ℤ)) → refusal v (station kb kf readings) ≡ 0
     → Sized (v .line .present) → Sized (withStation (v .line .present) (figuresOf (stationOf kb kf readings)) kf)
 unfolding readingRefusal
 station-sized v kb kf readings e h =
-    let t = fails v (station kb kf readings) e in
-    let limits = t .1 .1 .1 .1 .1 .1 in
-    let r = read kb kf readings (rw (t .0, t .1 .0, t .1 .1 .0)) in
-    let sights = not-false (within (f .back .sight) (l .sight) && within (f .fore .sight) (l .sight)) (limits .0) in
-    let accumulated = within-size (u .difference +ℤ f .difference) (l .accumulated) (not-false _ (limits .1 .1 .0)) in
-    figures-sized u f kf h (leb-false 200 (u .count) (t .1 .1 .1 .1 .0)) (figures-small r .height)
-    (sight-size (x .back) (l .sight) (r .back-order) (and-l (within (f .back .sight) (l .sight)) (within (f .fore .sight) (l .sight)) sights) (sight-limit order instrument))
-    (sight-size (x .fore) (l .sight) (r .fore-order) (and-r (within (f .back .sight) (l .sight)) (within (f .fore .sight) (l .sight)) sights) (sight-limit order instrument))
+    let from-6 = fails v (station kb kf readings) e in
+    let from-21 = from-6 .1 .1 .1 in
+    let from-24 = from-21 .1 .1 .1 in
+    let r = read kb kf readings (rw (from-6 .0, from-6 .1 .0, from-6 .1 .1 .0)) in
+    let back = within (f .back .sight) (l .sight) in
+    let fore = within (f .fore .sight) (l .sight) in
+    let sights = not-false (back && fore) (from-24 .0) in
+    let accumulated = within-size (u .difference +ℤ f .difference) (l .accumulated) (not-false _ (from-24 .1 .1 .0)) in
+    figures-sized u f kf h (leb-false 200 (u .count) (from-21 .1 .0)) (figures-small r .height)
+    (sight-size (x .back) (l .sight) (r .back-order) (and-l back fore sights) (sight-limit order instrument))
+    (sight-size (x .fore) (l .sight) (r .fore-order) (and-r back fore sights) (sight-limit order instrument))
     (le-trans accumulated (accumulated-limit order instrument))
   where
     u : Run
@@ -112,12 +116,6 @@ station-sized v kb kf readings e h =
     l = limitsOf order instrument
 
 -- ---- runs and sections fit
-
-within-true : (x : ℤ) (k : ℕ) → natAbs x ≤ k → within x k ≡ true
-within-true x k h = le-leb (natAbs x) k h
-
-between-true : {low x high : ℤ} → low ≤ℤ x → x ≤ℤ high → between low x high ≡ true
-between-true h k = rw (leZ-true h, leZ-true k)
 
 pub run-fits : (u : Run) → Sized u → runFits u ≡ true
 run-fits u h =
@@ -151,10 +149,14 @@ discrepancy-size d r e h = go (decLe (natAbs d) 100000)
         let above : 100001 ≤ natAbs d = omega arith in
         omega (ints, square, parts-times 18 r, mul-le-mul-left (natAbs d) above)
 
-pub both-ways-fits : (number : ℤ) (out back : Run) → Sized out → Sized back → 0 < back .count → discrepancyWithin (bothWays number out back) ≡ true
-    → sectionFits (bothWays number out back) ≡ true
+pub both-ways-fits : (number : ℤ) (out back : Run) → Sized out → Sized back → 0 < back .count
+    → discrepancyWithin (bothWays number out back) ≡ true → sectionFits (bothWays number out back) ≡ true
 both-ways-fits number out back h k few e =
-    let high : (out .sights +ℤ back .sights) ≤ℤ pos 1200000 = omega (ints, h .high, h .count, k .high, k .count, parts-add (out .sights) (back .sights)) in
-    section-fits (bothWays number out back) (omega (arith, h .height, h .count, k .height, k .count, abs-sub (out .height) (back .height)))
-    (omega (ints, h .low, k .low, parts-add (out .sights) (back .sights))) high
+    section-fits (bothWays number out back) (omega (arith, h .height, h .count, k .height, k .count, abs-sub (out .height) (back .height))) low high
     (discrepancy-size (out .height +ℤ back .height) (out .sights +ℤ back .sights) e high)
+  where
+    low : pos 1 ≤ℤ (out .sights +ℤ back .sights)
+    low = omega (ints, h .low, k .low, parts-add (out .sights) (back .sights))
+
+    high : (out .sights +ℤ back .sights) ≤ℤ pos 1200000
+    high = omega (ints, h .high, h .count, k .high, k .count, parts-add (out .sights) (back .sights))

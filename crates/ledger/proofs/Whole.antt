@@ -12,6 +12,7 @@ use lib.Signed.{_≤ℤ_, leZ}
 use Rattle.numbers.specs.Whole.{within, between, anyOf}
 use Rattle.numbers.specs.Tables.{firstOf}
 use Rattle.numbers.proofs.Tests.{by-test, no-true, and-l, and-r, or-l, or-r, not-false}
+use Rattle.numbers.proofs.Tables.{first-skips}
 use Rattle.numbers.proofs.Parts.{ints, parts-add, test-le}
 use Rattle.adjust.specs.declared.Section.{Section}
 use Rattle.adjust.specs.Sections.{legFits, sectionFits, heightInRange}
@@ -74,7 +75,7 @@ none-append : (p : Section → Bool) (xs : List Section) (x : Section) → anyOf
 none-append p [] x e k = λ j. k j || false
 none-append p (y ∷ ys) x e k = λ j. or-l (p y) (anyOf p ys) e j || none-append p ys x (or-r (p y) (anyOf p ys) e) k j
 
--- a section that fits, where there is room for it
+-- a section more, one that fits and for which there is room
 section-kept : (v : Standing) (x : Section) → Kept v → length (v .sections) < 64 → sectionFits x ≡ true → Kept (withSection v x)
 section-kept v x i room e =
     record {
@@ -90,9 +91,9 @@ section-kept v x i room e =
 -- by the tests 29, 31 and 32
 run-kept : (v : Standing) (number : ℤ) → Kept v → refusal v (end-run number) ≡ 0 → Kept (runEnded v number)
 run-kept v number i e =
-    let t = fails v (end-run number) e .1 .1 in
-    let some : 0 < u .count = omega (arith, eqb-false (u .count) 0 (or-l (eqb (u .count) 0) (eqb (u .count % 2) 1) (t .0))) in
-    go (v .line .waiting) (twoWay (v .line .order)) some (i .waiting) (t .1 .0) (t .1 .1 .1 .0)
+    let from-29 = fails v (end-run number) e .1 .1 in
+    let some : 0 < u .count = omega (arith, eqb-false (u .count) 0 (or-l (eqb (u .count) 0) (eqb (u .count % 2) 1) (from-29 .0))) in
+    go (v .line .waiting) (twoWay (v .line .order)) some (i .waiting) (from-29 .1 .0) (from-29 .1 .1 .1 .0)
   where
     u : Run
     u = v .line .present
@@ -155,16 +156,17 @@ taken-kept v drop-section i e =
     record { few = i .few; fit = i .fit; present = no-run-sized; waiting = tt; start = i .start; end = i .end; closed = i .closed }
 -- by the tests 5 and 33
 taken-kept v (close-line number end) i e =
-    let t = fails v (close-line number end) e in
+    let from-4 = fails v (close-line number end) e in
+    let from-33 = from-4 .1 .1 .1 in
     record {
       few = i .few;
       fit = i .fit;
       present = i .present;
       waiting = i .waiting;
       start = i .start;
-      end = not-false (heightInRange end) (t .1 .0);
+      end = not-false (heightInRange end) (from-4 .1 .0);
       closed =
-          λ c. not-empty (v .sections) (or-r (not (eqb (v .line .present .count) 0) || isReturn (v .line .waiting)) (isEmpty (v .sections)) (t .1 .1 .1 .0));
+          λ c. not-empty (v .sections) (or-r (not (eqb (v .line .present .count) 0) || isReturn (v .line .waiting)) (isEmpty (v .sections)) (from-33 .0));
     }
 
 -- ---- a list of calls
@@ -185,21 +187,17 @@ fresh-kept =
 calls-kept : (calls : List Call) → Kept (standing (after freshReading calls))
 calls-kept calls = after-kept calls freshReading fresh-kept
 
--- ---- so
+-- ---- so a book made by calls never meets the test of 20
 
 pub never-broken : (calls : List Call) → broken (standing (after freshReading calls)) ≡ false
 never-broken calls = kept-whole (standing (after freshReading calls)) (calls-kept calls)
 
--- a test that fails stands in a table for nothing
-skipped : (ts us : List (ℕ × Bool)) (n : ℕ) → firstOf (ts ++ ((n, false) ∷ us)) ≡ firstOf (ts ++ us)
-skipped [] us n = refl
-skipped (t ∷ ts) us n = ap (cond (t .1) (t .0)) (skipped ts us n)
-
 -- and a book gives the number that the rules give
-pub same-refusal : (calls : List Call) (c : Call) → bookRefusal (standing (after freshReading calls)) c ≡ refusal (standing (after freshReading calls)) c
+pub same-refusal : (calls : List Call) (c : Call)
+    → bookRefusal (standing (after freshReading calls)) c ≡ refusal (standing (after freshReading calls)) c
 same-refusal calls c =
     let v : Standing = standing (after freshReading calls) in
-    ap (λ (b : Bool). firstOf (inputTests c ++ ((20, b) ∷ stateTests v c))) (never-broken calls) ∙ skipped (inputTests c) (stateTests v c) 20
+    ap (λ (b : Bool). firstOf (inputTests c ++ ((20, b) ∷ stateTests v c))) (never-broken calls) ∙ first-skips (inputTests c) (stateTests v c) 20
 
 -- ---- the length
 
@@ -217,7 +215,8 @@ line-long (x ∷ xs) e =
     let k : pos (length xs) ≤ℤ lineLength xs = line-long xs (or-r (unfit x) (anyOf unfit xs) e) in
     omega (ints, parts-add (x .distance) (lineLength xs))
 
-pub closed-long : (calls : List Call) → after freshReading calls .stage ≡ Closed → pos 1 ≤ℤ lineLength (standing (after freshReading calls) .sections)
+pub closed-long : (calls : List Call) → after freshReading calls .stage ≡ Closed
+    → pos 1 ≤ℤ lineLength (standing (after freshReading calls) .sections)
 closed-long calls e =
     let i : Kept (standing (after freshReading calls)) = calls-kept calls in
     omega (ints, line-long (standing (after freshReading calls) .sections) (i .fit), i .closed e)

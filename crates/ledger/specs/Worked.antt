@@ -16,7 +16,7 @@ use Rattle.ledger.specs.Plain.{freshReading, after, refusals, standing, 
 -- ---- case A
 
 -- upper thread, lower thread, black and red middle
-abbrev pub staff : ℕ → ℕ → ℕ → ℕ → List ℤ
+abbrev staff : ℕ → ℕ → ℕ → ℕ → List ℤ
 staff u l m r = pos u ∷ pos l ∷ pos m ∷ pos r ∷ []
 
 abbrev readings1 : List (List ℤ)
@@ -25,20 +25,20 @@ readings1 = staff 1571 1197 1384 6171 ∷ staff 739 363 551 5239 ∷ []
 abbrev readings2 : List (List ℤ)
 readings2 = staff 1965 1700 1832 6519 ∷ staff 2141 1874 2007 6793 ∷ []
 
-abbrev pub a1 : Call
+abbrev a1 : Call
 a1 = station (pos 4787) (pos 4687) readings1
 
-abbrev pub a2 : Call
+abbrev a2 : Call
 a2 = station (pos 4687) (pos 4787) readings2
 
-abbrev pub a3 : Call
+abbrev a3 : Call
 a3 = station (pos 4787) (pos 4687) (staff 1300 1100 1200 5987 ∷ staff 1000 800 900 5587 ∷ [])
 
-abbrev pub a4 : Call
+abbrev a4 : Call
 a4 = station (pos 4687) (pos 4787) (staff 1500 1300 1400 6087 ∷ staff 1250 1050 1150 5937 ∷ [])
 
 -- fourth order, DS3, from benchmark 1
-abbrev pub open4 : ℕ → Call
+abbrev open4 : ℕ → Call
 open4 height = open-line (pos 4) (pos 3) (pos 1) (pos height)
 
 abbrev caseA : List Call
