@@ -112,7 +112,9 @@ found (close-line m h ∷ cs) r n e = go (found cs) (eqb (refusal r c) 0) refl
           later = cs;
           split = refl;
           accepted = eqb→eq (refusal r c) 0 (holds k);
-          once = ap (λ (t : Bool). cond t (given r c) [] ++ closings (cond t (taken r c) r) cs) k ∙ ap (λ (l : List Closing). given r c ++ l) (shut-gives r m h cs);
+          once =
+              ap (λ (t : Bool). cond t (given r c) [] ++ closings (cond t (taken r c) r) cs) k
+              ∙ ap (λ (l : List Closing). given r c ++ l) (shut-gives r m h cs);
           stays = ap (λ (t : Bool). after (cond t (taken r c) r) cs) k ∙ shut-stays r m h cs;
         }
     go find false k =

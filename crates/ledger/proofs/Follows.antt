@@ -10,7 +10,7 @@ use Rattle.station.specs.declared.Order.the-variants.{Third, Fourth}
 use Rattle.station.specs.Station.{Station, stationOf, figuresOf, sights, sightDifference, twiceHeight}
 use Rattle.adjust.specs.declared.Section.{Section}
 use Rattle.book.specs.declared.Waiting.the-variants.{Nothing}
-use Rattle.book.specs.Standing.{noRun, withStation}
+use Rattle.book.specs.Standing.{Standing, noRun, withStation}
 use Rattle.book.specs.Rules as Rules
 use Rattle.book.specs.Rules.{Call, open-line, station, end-run, drop-run, drop-section, close-line, withRuns, withSection}
 use Rattle.ledger.specs.Plain as Plain
@@ -70,7 +70,8 @@ ended r order (some w) n = finished (recast r order (some w)) (record { number =
 pub follows : (r : Reading) (c : Call) → standing (Plain.taken r c) ≡ Rules.taken (standing r) c
 follows r (open-line order instrument number height) = refl
 follows r (station kb kf readings) =
-    λ i. record { line = withRuns (standing r .line) (standing r .line .waiting) (run-append (r .present) (stationOf kb kf readings) i); sections = standing r .sections }
+    let v : Standing = standing r in
+    λ i. record { line = withRuns (v .line) (v .line .waiting) (run-append (r .present) (stationOf kb kf readings) i); sections = v .sections }
 follows r (end-run number) = ended r (r .order) (r .waiting) number
 follows r drop-run = refl
 follows r drop-section = refl

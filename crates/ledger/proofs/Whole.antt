@@ -199,6 +199,20 @@ same-refusal calls c =
     let v : Standing = standing (after freshReading calls) in
     ap (λ (b : Bool). firstOf (inputTests c ++ ((20, b) ∷ stateTests v c))) (never-broken calls) ∙ first-skips (inputTests c) (stateTests v c) 20
 
+-- so one that holds the counts and sums of the standing list holds them after the next call
+pub book-follows : (calls : List Call) (c : Call)
+    → standing (next (after freshReading calls) c)
+    ≡ cond (eqb (bookRefusal (standing (after freshReading calls)) c) 0) (taken (standing (after freshReading calls)) c) (standing (after freshReading calls))
+book-follows calls c =
+    by-test (eqb (refusal v c) 0) (λ t. standing (cond t (Plain.taken r c) r) ≡ cond t (taken v c) v) (λ t. follows r c) (λ t. refl)
+    ∙ ap (λ (n : ℕ). cond (eqb n 0) (taken v c) v) (sym (same-refusal calls c))
+  where
+    r : Reading
+    r = after freshReading calls
+
+    v : Standing
+    v = standing r
+
 -- ---- the length
 
 section-long : (x : Section) → unfit x ≡ false → pos 1 ≤ℤ x .distance
