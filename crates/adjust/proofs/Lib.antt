@@ -1,4 +1,5 @@
--- What callers cite of sections in arrays.
+-- What callers cite: Lines, the adjustment's theorem in any units; Lists, Sized and Bounded, sections in arrays and the sizes of their figures. Over serves the adjustment call.
+pub mod Lines
 pub mod Lists
 pub mod Bounded
 pub mod Sized

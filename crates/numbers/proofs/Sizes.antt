@@ -1,14 +1,15 @@
 -- Magnitudes: of a negation, a sum, a difference, a product and a square; their parity.
 use mathlib.Core.Path.{_≡_, refl, ap, _∙_}
-use mathlib.Core.Bool.{true, cond}
+use mathlib.Core.Bool.{true, cond, _&&_}
 use Prim.Native.Nat.{ℕ, zero, suc, _+_, _-_, _*_, _%_, _≤_, _<_}
 use native.Mathlib.Omega.{arith}
+use borrow.Author.Tests.{le-leb}
 use lib.Dec.{ltb, ltb→lt, nltb→le, leb→le}
 use lib.IntN.{ℤ, pos, negsuc, negℤ, natAbs, subℕ, _+ℤ_, _-ℤ_, _*ℤ_}
 use lib.Signed.{_≤ℤ_, leZ}
 use Rattle.numbers.specs.Whole.{within, between}
 use Rattle.numbers.proofs.Tests.{by-test, holds, and-l, and-r}
-use Rattle.numbers.proofs.Parts.{ints, parts-add, parts-sub, parts-abs, parts-eq, test-le}
+use Rattle.numbers.proofs.Parts.{ints, parts-add, parts-sub, parts-abs, parts-eq, test-le, leZ-true}
 
 abs-subℕ : (a b : ℕ) → natAbs (subℕ a b) ≡ (a - b) + (b - a)
 abs-subℕ a b =
@@ -66,3 +67,9 @@ between-size x k e =
 
 pub within-size : (x : ℤ) (k : ℕ) → within x k ≡ true → natAbs x ≤ k
 within-size x k e = leb→le (natAbs x) k (holds e)
+
+pub between-true : {low x high : ℤ} → low ≤ℤ x → x ≤ℤ high → between low x high ≡ true
+between-true h k = λ i. leZ-true h i && leZ-true k i
+
+pub within-true : (x : ℤ) (k : ℕ) → natAbs x ≤ k → within x k ≡ true
+within-true x k h = le-leb (natAbs x) k h

@@ -50,6 +50,11 @@ first-append (t ∷ ts) us k = go (t .1) (first-append ts us (and-r (not (eqb (t
     go true g = sym (rw (not-true (eqb (t .0) 0) (and-l (not (eqb (t .0) 0)) (numbered ts) k)))
     go false g = g
 
+-- a test that fails stands in a table for nothing
+pub first-skips : (ts us : List (ℕ × Bool)) (n : ℕ) → firstOf (ts ++ ((n, false) ∷ us)) ≡ firstOf (ts ++ us)
+first-skips [] us n = refl
+first-skips (t ∷ ts) us n = ap (cond (t .1) (t .0)) (first-skips ts us n)
+
 -- ---- the lowest number
 
 -- the numbers rise from above `low`, by rank

@@ -1,0 +1,78 @@
+-- The counts and sums of the plain reading's lists follow the calls as the rules say.
+use mathlib.Core.Path.{_≡_, refl, sym, ap, _∙_}
+use mathlib.Core.List.{List, [], _∷_, _++_, map}
+use mathlib.Core.Option.{Option, none, some}
+use lib.ListN.{length-append}
+use lib.IntN.{ℤ, pos, _+ℤ_, +ℤ-assoc, +ℤ-comm}
+use Rattle.numbers.specs.Whole.{sum, lastOf}
+use Rattle.station.specs.declared.Order.{Order}
+use Rattle.station.specs.declared.Order.the-variants.{Third, Fourth}
+use Rattle.station.specs.Station.{Station, stationOf, figuresOf, sights, sightDifference, twiceHeight}
+use Rattle.adjust.specs.declared.Section.{Section}
+use Rattle.book.specs.declared.Waiting.the-variants.{Nothing}
+use Rattle.book.specs.Standing.{Standing, noRun, withStation}
+use Rattle.book.specs.Rules as Rules
+use Rattle.book.specs.Rules.{Call, open-line, station, end-run, drop-run, drop-section, close-line, withRuns, withSection}
+use Rattle.ledger.specs.Plain as Plain
+use Rattle.ledger.specs.Plain.{Reading, Levelled, Awaited, runOf, sectionOf, standing, withLists}
+
+-- a reading with the order and the waiting list given: the end of a run goes by these two, so a proof goes by their cases and is then used
+-- at `recast r (r .order) (r .waiting)`, which is r
+abbrev pub recast : Reading → Order → Option Awaited → Reading
+recast r order waiting =
+    record {
+      stage = r .stage;
+      order = order;
+      instrument = r .instrument;
+      start = r .start;
+      end = r .end;
+      sections = r .sections;
+      waiting = waiting;
+      present = r .present;
+    }
+
+-- ---- one station more
+
+pub sum-append : (f : Station → ℤ) (xs : List Station) (x : Station) → sum (map f (xs ++ (x ∷ []))) ≡ sum (map f xs) +ℤ f x
+sum-append f [] x = +ℤ-comm (f x) (pos 0)
+sum-append f (y ∷ ys) x = ap (λ (z : ℤ). f y +ℤ z) (sum-append f ys x) ∙ sym (+ℤ-assoc (f y) (sum (map f ys)) (f x))
+
+last-append : (f : Station → ℤ) (a : ℤ) (xs : List Station) (x : Station) → lastOf a (map f (xs ++ (x ∷ []))) ≡ f x
+last-append f a [] x = refl
+last-append f a (y ∷ ys) x = last-append f (f y) ys x
+
+pub run-append : (xs : List Station) (x : Station) → runOf (xs ++ (x ∷ [])) ≡ withStation (runOf xs) (figuresOf x) (x .fore .constant)
+run-append xs x = λ i.
+    record {
+      count = length-append xs (x ∷ []) i;
+      height = sum-append twiceHeight xs x i;
+      sights = sum-append sights xs x i;
+      difference = sum-append sightDifference xs x i;
+      last = last-append (λ (y : Station). y .fore .constant) (pos 0) xs x i;
+    }
+
+-- ---- one section more
+
+pub section-append : (xs : List Levelled) (x : Levelled) → map sectionOf (xs ++ (x ∷ [])) ≡ map sectionOf xs ++ (sectionOf x ∷ [])
+section-append [] x = refl
+section-append (y ∷ ys) x = ap (λ (l : List Section). sectionOf y ∷ l) (section-append ys x)
+
+finished : (r : Reading) (x : Levelled) → standing (withLists r (r .sections ++ (x ∷ [])) none []) ≡ withSection (standing r) (sectionOf x)
+finished r x = λ i. record { line = withRuns (standing r .line) Nothing noRun; sections = section-append (r .sections) x i }
+
+ended : (r : Reading) (order : Order) (waiting : Option Awaited) (n : ℤ)
+    → standing (Plain.runEnded (recast r order waiting) n) ≡ Rules.runEnded (standing (recast r order waiting)) n
+ended r Third none n = refl
+ended r Fourth none n = finished (recast r Fourth none) (record { number = n; outward = r .present; back = none })
+ended r order (some w) n = finished (recast r order (some w)) (record { number = w .number; outward = w .outward; back = some (r .present) })
+
+-- for every reading and every call, whether a list of calls leads there or not
+pub follows : (r : Reading) (c : Call) → standing (Plain.taken r c) ≡ Rules.taken (standing r) c
+follows r (open-line order instrument number height) = refl
+follows r (station kb kf readings) =
+    let v : Standing = standing r in
+    λ i. record { line = withRuns (v .line) (v .line .waiting) (run-append (r .present) (stationOf kb kf readings) i); sections = v .sections }
+follows r (end-run number) = ended r (r .order) (r .waiting) number
+follows r drop-run = refl
+follows r drop-section = refl
+follows r (close-line number end) = refl

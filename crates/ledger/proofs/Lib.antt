@@ -1,0 +1,7 @@
+-- What is proved of every list of calls.
+pub mod Follows
+pub mod Lowest
+pub mod Drops
+pub mod Runs
+pub mod Whole
+pub mod Every

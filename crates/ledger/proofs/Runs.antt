@@ -1,0 +1,162 @@
+-- How large a run and a section get: a taken station keeps a run's sums within its count, so runs and the sections made of them fit.
+use mathlib.Core.Path.{_≡_, subst}
+use mathlib.Core.Bool.{true, _&&_}
+use mathlib.Core.List.{List}
+use Prim.Native.Nat.{ℕ, _*_, _≤_, _<_}
+use native.Mathlib.Decide.{decLe}
+use native.Mathlib.Nat.{le-trans, mul-le-mul-left}
+use native.Mathlib.Omega.{arith}
+use borrow.Author.Tests.{le-leb, leb-false}
+use lib.IntN.{ℤ, pos, natAbs, _+ℤ_, _*ℤ_}
+use lib.Signed.{_≤ℤ_, _<ℤ_, ltZ}
+use Rattle.numbers.specs.Whole.{within}
+use Rattle.numbers.proofs.Tests.{and-l, and-r, not-false}
+use Rattle.numbers.proofs.Parts.{ints, parts-add, parts-sub, parts-times, parts-abs, test-lt}
+use Rattle.numbers.proofs.Sizes.{abs-add, abs-sub, abs-mul, square-abs, within-size, within-true, between-true}
+use Rattle.roots.specs.Limit.{isWithin}
+use Rattle.roots.proofs.LimitLaws.{within-le}
+use Rattle.station.specs.declared.Order.{Order}
+use Rattle.station.specs.declared.Order.the-variants.{Third, Fourth}
+use Rattle.station.specs.declared.Instrument.{Instrument}
+use Rattle.station.specs.declared.Instrument.the-variants.{Ds3, Ds1}
+use Rattle.station.specs.declared.Limits.{Limits}
+use Rattle.station.specs.declared.Figures.{Figures}
+use Rattle.station.specs.Station.{Staff, Station, stationOf, figuresOf, limitsOf, sight, threadsInOrder, readingRefusal}
+use Rattle.station.proofs.Read.{read, figures-small}
+use Rattle.adjust.specs.declared.Section.{Section}
+use Rattle.adjust.specs.Sections.{sectionFits}
+use Rattle.book.specs.declared.Run.{Run}
+use Rattle.book.specs.Standing.{Standing, noRun, withStation, oneWay, bothWays, runFits}
+use Rattle.book.specs.Rules.{station, discrepancyWithin, refusal}
+use Rattle.ledger.proofs.Lowest.{fails}
+
+pub record Sized (u : Run) : Type 0 where
+  pub count : u .count ≤ 200
+  -- G and s, by the stations
+  pub height : natAbs (u .height) ≤ 31572 * u .count
+  pub low : pos (u .count) ≤ℤ u .sights
+  pub high : u .sights ≤ℤ pos (3000 * u .count)
+  -- the accumulated d was tested at the last station
+  pub difference : natAbs (u .difference) ≤ 100
+
+pub no-run-sized : Sized noRun
+no-run-sized = record { count = omega arith; height = omega arith; low = omega ints; high = omega ints; difference = omega arith }
+
+-- ---- one station more
+
+sight-limit : (order : Order) (instrument : Instrument) → limitsOf order instrument .sight ≤ 1500
+sight-limit Third Ds3 = omega arith
+sight-limit Third Ds1 = omega arith
+sight-limit Fourth Ds3 = omega arith
+sight-limit Fourth Ds1 = omega arith
+
+accumulated-limit : (order : Order) (instrument : Instrument) → limitsOf order instrument .accumulated ≤ 100
+accumulated-limit Third instrument = omega arith
+accumulated-limit Fourth instrument = omega arith
+
+-- a sight by the tests 8 and 24
+abbrev Sight : ℤ → Type 0
+Sight x = (pos 1 ≤ℤ x) × (x ≤ℤ pos 1500)
+
+sight-size : (s : Staff) (limit : ℕ) → threadsInOrder s ≡ true → within (sight s) limit ≡ true → limit ≤ 1500 → Sight (sight s)
+sight-size s limit e k h =
+    let a : s .lower <ℤ s .black = test-lt (and-l (ltZ (s .lower) (s .black)) (ltZ (s .black) (s .upper)) e) in
+    let b : s .black <ℤ s .upper = test-lt (and-r (ltZ (s .lower) (s .black)) (ltZ (s .black) (s .upper)) e) in
+    (omega (ints, parts-sub (s .upper) (s .lower)), omega (ints, within-size (sight s) limit k, parts-abs (sight s)))
+
+figures-sized : (u : Run) (f : Figures) (kf : ℤ) → Sized u → u .count < 200
+    → natAbs (f .height) ≤ 31572 → Sight (f .back .sight) → Sight (f .fore .sight) → natAbs (u .difference +ℤ f .difference) ≤ 100
+    → Sized (withStation u f kf)
+figures-sized u f kf h few height back fore difference =
+    record {
+      count = omega arith;
+      height = omega (arith, h .height, abs-add (u .height) (f .height));
+      low = omega (ints, h .low, parts-add (u .sights) both, parts-add (f .back .sight) (f .fore .sight));
+      high = omega (ints, h .high, parts-add (u .sights) both, parts-add (f .back .sight) (f .fore .sight));
+      difference = difference;
+    }
+  where
+    both : ℤ
+    both = f .back .sight +ℤ f .fore .sight
+
+-- by the tests 6 to 8, 22, 24 and 26
+pub station-sized : (v : Standing) (kb kf : ℤ) (readings : List (List ℤ)) → refusal v (station kb kf readings) ≡ 0
+    → Sized (v .line .present) → Sized (withStation (v .line .present) (figuresOf (stationOf kb kf readings)) kf)
+unfolding readingRefusal
+station-sized v kb kf readings e h =
+    let from-6 = fails v (station kb kf readings) e in
+    let from-21 = from-6 .1 .1 .1 in
+    let from-24 = from-21 .1 .1 .1 in
+    let r = read kb kf readings (rw (from-6 .0, from-6 .1 .0, from-6 .1 .1 .0)) in
+    let back = within (f .back .sight) (l .sight) in
+    let fore = within (f .fore .sight) (l .sight) in
+    let sights = not-false (back && fore) (from-24 .0) in
+    let accumulated = within-size (u .difference +ℤ f .difference) (l .accumulated) (not-false _ (from-24 .1 .1 .0)) in
+    figures-sized u f kf h (leb-false 200 (u .count) (from-21 .1 .0)) (figures-small r .height)
+    (sight-size (x .back) (l .sight) (r .back-order) (and-l back fore sights) (sight-limit order instrument))
+    (sight-size (x .fore) (l .sight) (r .fore-order) (and-r back fore sights) (sight-limit order instrument))
+    (le-trans accumulated (accumulated-limit order instrument))
+  where
+    u : Run
+    u = v .line .present
+
+    x : Station
+    x = stationOf kb kf readings
+
+    f : Figures
+    f = figuresOf x
+
+    order : Order
+    order = v .line .order
+
+    instrument : Instrument
+    instrument = v .line .instrument
+
+    l : Limits
+    l = limitsOf order instrument
+
+-- ---- runs and sections fit
+
+pub run-fits : (u : Run) → Sized u → runFits u ≡ true
+run-fits u h =
+    rw (
+      le-leb (u .count) 200 (h .count),
+      within-true (u .height) 25000000 (omega (arith, h .height, h .count)),
+      between-true {low = pos 0} {x = u .sights} {high = pos 600000} (omega (ints, h .low)) (omega (ints, h .high, h .count)),
+      within-true (u .difference) 1000000 (omega (arith, h .difference)),
+    )
+
+section-fits : (x : Section) → natAbs (x .height) ≤ 50000000 → pos 1 ≤ℤ x .distance → x .distance ≤ℤ pos 1200000 → natAbs (x .discrepancy) ≤ 100000
+    → sectionFits x ≡ true
+section-fits x height low high discrepancy =
+    rw (within-true (x .height) 50000000 height, between-true low high, within-true (x .discrepancy) 100000 discrepancy)
+
+pub one-way-fits : (number : ℤ) (u : Run) → Sized u → 0 < u .count → sectionFits (oneWay number u) ≡ true
+one-way-fits number u h k =
+    section-fits (oneWay number u) (omega (arith, h .height, h .count, abs-mul (pos 2) (u .height)))
+    (omega (ints, h .low, parts-times 2 (u .sights))) (omega (ints, h .high, h .count, parts-times 2 (u .sights))) (omega arith)
+
+-- D by the test 32
+discrepancy-size : (d r : ℤ) → isWithin 625 d 18 r ≡ true → r ≤ℤ pos 1200000 → natAbs d ≤ 100000
+discrepancy-size d r e h = go (decLe (natAbs d) 100000)
+  where
+    square : (pos 625 *ℤ pos (natAbs d * natAbs d)) ≤ℤ (pos 18 *ℤ r)
+    square = subst (λ (z : ℤ). (pos 625 *ℤ z) ≤ℤ (pos 18 *ℤ r)) (square-abs d) (within-le 625 d 18 r e)
+
+    go : Dec (natAbs d ≤ 100000) → natAbs d ≤ 100000
+    go (yes p) = p
+    go (no f) =
+        let above : 100001 ≤ natAbs d = omega arith in
+        omega (ints, square, parts-times 18 r, mul-le-mul-left (natAbs d) above)
+
+pub both-ways-fits : (number : ℤ) (out back : Run) → Sized out → Sized back → 0 < back .count
+    → discrepancyWithin (bothWays number out back) ≡ true → sectionFits (bothWays number out back) ≡ true
+both-ways-fits number out back h k few e =
+    section-fits (bothWays number out back) (omega (arith, h .height, h .count, k .height, k .count, abs-sub (out .height) (back .height))) low high
+    (discrepancy-size (out .height +ℤ back .height) (out .sights +ℤ back .sights) e high)
+  where
+    low : pos 1 ≤ℤ (out .sights +ℤ back .sights)
+    low = omega (ints, h .low, k .low, parts-add (out .sights) (back .sights))
+
+    high : (out .sights +ℤ back .sights) ≤ℤ pos 1200000
+    high = omega (ints, h .high, h .count, k .high, k .count, parts-add (out .sights) (back .sights))

@@ -1,0 +1,236 @@
+-- No book that calls from a fresh one leave meets the test of 20, and a closed line is at least 1 long: by what every taken call keeps.
+use mathlib.Core.Path.{_≡_, refl, sym, ap, subst, _∙_}
+use mathlib.Core.Bool.{Bool, true, false, not, cond, _&&_, _||_}
+use mathlib.Core.List.{List, [], _∷_, _++_}
+use Prim.Native.Nat.{ℕ, _%_, _≤_, _<_}
+use native.Mathlib.Omega.{arith}
+use borrow.Author.Tests.{le-leb, lt-leb, leb-false, eqb-false}
+use lib.Dec.{leb, eqb, eqb→eq}
+use lib.ListN.{length, length-append}
+use lib.IntN.{ℤ, pos}
+use lib.Signed.{_≤ℤ_, leZ}
+use Rattle.numbers.specs.Whole.{within, between, anyOf}
+use Rattle.numbers.specs.Tables.{firstOf}
+use Rattle.numbers.proofs.Tests.{by-test, no-true, and-l, and-r, or-l, or-r, not-false}
+use Rattle.numbers.proofs.Tables.{first-skips}
+use Rattle.numbers.proofs.Parts.{ints, parts-add, test-le}
+use Rattle.adjust.specs.declared.Section.{Section}
+use Rattle.adjust.specs.Sections.{legFits, sectionFits, heightInRange}
+use Rattle.adjust.specs.Line.{lineLength}
+use Rattle.book.specs.declared.Stage.the-variants.{Fresh, Open, Closed}
+use Rattle.book.specs.declared.Run.{Run}
+use Rattle.book.specs.declared.Waiting.{Waiting}
+use Rattle.book.specs.declared.Waiting.the-variants.{Nothing, Outward}
+use Rattle.book.specs.Standing.{Standing, isEmpty, isReturn, outwardOrReturn, noRun, oneWay, bothWays, twoWay, runFits, broken}
+use Rattle.book.specs.Rules.{Call, open-line, station, end-run, drop-run, drop-section, close-line, inputTests, stateTests, refusal, bookRefusal, discrepancyWithin, withRuns, withSection, runEnded, taken}
+use Rattle.ledger.specs.Plain as Plain
+use Rattle.ledger.specs.Plain.{Reading, freshReading, after, next, standing}
+use Rattle.ledger.proofs.Follows.{follows}
+use Rattle.ledger.proofs.Lowest.{fails}
+use Rattle.ledger.proofs.Runs.{Sized, no-run-sized, station-sized, run-fits, one-way-fits, both-ways-fits}
+
+-- ---- stages
+
+pub open-not-closed : Open ≡ Closed → ⊥
+open-not-closed e = let z : _≡_ {A = ℕ} 0 1 = cc in omega arith
+
+pub fresh-not-closed : Fresh ≡ Closed → ⊥
+fresh-not-closed e = let z : _≡_ {A = ℕ} 0 1 = cc in omega arith
+
+-- ---- what is kept
+
+-- what waits beside n sections: a run leaves room for the section that it will be
+abbrev Awaits : ℕ → Waiting → Type 0
+Awaits n Nothing = Unit {0}
+Awaits n (Outward number run) = Sized run × (n < 64)
+
+-- a section that does not fit
+abbrev unfit : Section → Bool
+unfit x = not (sectionFits x)
+
+record Kept (v : Standing) : Type 0 where
+  few : length (v .sections) ≤ 64
+  fit : anyOf unfit (v .sections) ≡ false
+  present : Sized (v .line .present)
+  waiting : Awaits (length (v .sections)) (v .line .waiting)
+  start : heightInRange (v .line .start .height) ≡ true
+  end : heightInRange (v .line .end) ≡ true
+  closed : v .line .stage ≡ Closed → 1 ≤ length (v .sections)
+
+-- so the test of 20 does not hold
+kept-whole : (v : Standing) → Kept v → broken v ≡ false
+unfolding broken
+kept-whole v i =
+    λ j. not (le-leb (length (v .sections)) 64 (i .few) j) || i .fit j || not (run-fits (v .line .present) (i .present) j)
+    || waits (v .line .waiting) (i .waiting) j || not (i .start j) || not (i .end j)
+  where
+    waits : (w : Waiting) → Awaits (length (v .sections)) w
+        → outwardOrReturn w false (λ number run. not (runFits run) || leb 64 (length (v .sections))) ≡ false
+    waits Nothing k = refl
+    waits (Outward number run) k = λ j. not (run-fits run (k .0) j) || lt-leb 64 (length (v .sections)) (k .1) j
+
+-- ---- the end of a run
+
+none-append : (p : Section → Bool) (xs : List Section) (x : Section) → anyOf p xs ≡ false → p x ≡ false → anyOf p (xs ++ (x ∷ [])) ≡ false
+none-append p [] x e k = λ j. k j || false
+none-append p (y ∷ ys) x e k = λ j. or-l (p y) (anyOf p ys) e j || none-append p ys x (or-r (p y) (anyOf p ys) e) k j
+
+-- a section more, one that fits and for which there is room
+section-kept : (v : Standing) (x : Section) → Kept v → length (v .sections) < 64 → sectionFits x ≡ true → Kept (withSection v x)
+section-kept v x i room e =
+    record {
+      few = rw (length-append (v .sections) (x ∷ [])) (omega arith);
+      fit = none-append unfit (v .sections) x (i .fit) (ap not e);
+      present = no-run-sized;
+      waiting = tt;
+      start = i .start;
+      end = i .end;
+      closed = λ c. rw (length-append (v .sections) (x ∷ [])) (omega arith);
+    }
+
+-- by the tests 29, 31 and 32
+run-kept : (v : Standing) (number : ℤ) → Kept v → refusal v (end-run number) ≡ 0 → Kept (runEnded v number)
+run-kept v number i e =
+    let from-29 = fails v (end-run number) e .1 .1 in
+    let some : 0 < u .count = omega (arith, eqb-false (u .count) 0 (or-l (eqb (u .count) 0) (eqb (u .count % 2) 1) (from-29 .0))) in
+    go (v .line .waiting) (twoWay (v .line .order)) some (i .waiting) (from-29 .1 .0) (from-29 .1 .1 .1 .0)
+  where
+    u : Run
+    u = v .line .present
+
+    n : ℕ
+    n = length (v .sections)
+
+    go : (w : Waiting) (t : Bool) → 0 < u .count → Awaits n w → not (isReturn w) && leb 64 n ≡ false
+        → outwardOrReturn w false (λ outward run. not (discrepancyWithin (bothWays outward run u))) ≡ false
+        → Kept (outwardOrReturn w
+        (cond t (record { line = withRuns (v .line) (Outward number u) noRun; sections = v .sections }) (withSection v (oneWay number u)))
+        (λ outward run. withSection v (bothWays outward run u)))
+    go Nothing true some k room d =
+        record {
+          few = i .few;
+          fit = i .fit;
+          present = no-run-sized;
+          waiting = (i .present, leb-false 64 n room);
+          start = i .start;
+          end = i .end;
+          closed = i .closed;
+        }
+    go Nothing false some k room d = section-kept v (oneWay number u) i (leb-false 64 n room) (one-way-fits number u (i .present) some)
+    go (Outward outward run) t some k room d =
+        section-kept v (bothWays outward run u) i (k .1)
+        (both-ways-fits outward run u (k .0) (i .present) some (not-false (discrepancyWithin (bothWays outward run u)) d))
+
+-- ---- a call
+
+not-empty : (ss : List Section) → isEmpty ss ≡ false → 1 ≤ length ss
+not-empty [] e = no-true (sym e)
+not-empty (x ∷ xs) e = omega arith
+
+taken-kept : (v : Standing) (c : Call) → Kept v → refusal v c ≡ 0 → Kept (taken v c)
+-- by the test 5
+taken-kept v (open-line order instrument number height) i e =
+    record {
+      few = omega arith;
+      fit = refl;
+      present = no-run-sized;
+      waiting = tt;
+      start = not-false (heightInRange height) (fails v (open-line order instrument number height) e .1 .1 .0);
+      end = refl;
+      closed = λ c. absurd (open-not-closed c);
+    }
+taken-kept v (station kb kf readings) i e =
+    record {
+      few = i .few;
+      fit = i .fit;
+      present = station-sized v kb kf readings e (i .present);
+      waiting = i .waiting;
+      start = i .start;
+      end = i .end;
+      closed = i .closed;
+    }
+taken-kept v (end-run number) i e = run-kept v number i e
+taken-kept v drop-run i e =
+    record { few = i .few; fit = i .fit; present = no-run-sized; waiting = i .waiting; start = i .start; end = i .end; closed = i .closed }
+taken-kept v drop-section i e =
+    record { few = i .few; fit = i .fit; present = no-run-sized; waiting = tt; start = i .start; end = i .end; closed = i .closed }
+-- by the tests 5 and 33
+taken-kept v (close-line number end) i e =
+    let from-4 = fails v (close-line number end) e in
+    let from-33 = from-4 .1 .1 .1 in
+    record {
+      few = i .few;
+      fit = i .fit;
+      present = i .present;
+      waiting = i .waiting;
+      start = i .start;
+      end = not-false (heightInRange end) (from-4 .1 .0);
+      closed =
+          λ c. not-empty (v .sections) (or-r (not (eqb (v .line .present .count) 0) || isReturn (v .line .waiting)) (isEmpty (v .sections)) (from-33 .0));
+    }
+
+-- ---- a list of calls
+
+next-kept : (r : Reading) (c : Call) → Kept (standing r) → Kept (standing (next r c))
+next-kept r c i =
+    by-test (eqb (refusal (standing r) c) 0) (λ t. Kept (standing (cond t (Plain.taken r c) r)))
+    (λ t. subst Kept (sym (follows r c)) (taken-kept (standing r) c i (eqb→eq (refusal (standing r) c) 0 t))) (λ t. i)
+
+after-kept : (calls : List Call) (r : Reading) → Kept (standing r) → Kept (standing (after r calls))
+after-kept [] r i = i
+after-kept (c ∷ cs) r i = after-kept cs (next r c) (next-kept r c i)
+
+fresh-kept : Kept (standing freshReading)
+fresh-kept =
+    record { few = omega arith; fit = refl; present = no-run-sized; waiting = tt; start = refl; end = refl; closed = λ c. absurd (fresh-not-closed c) }
+
+calls-kept : (calls : List Call) → Kept (standing (after freshReading calls))
+calls-kept calls = after-kept calls freshReading fresh-kept
+
+-- ---- so a book made by calls never meets the test of 20
+
+pub never-broken : (calls : List Call) → broken (standing (after freshReading calls)) ≡ false
+never-broken calls = kept-whole (standing (after freshReading calls)) (calls-kept calls)
+
+-- and a book gives the number that the rules give
+pub same-refusal : (calls : List Call) (c : Call)
+    → bookRefusal (standing (after freshReading calls)) c ≡ refusal (standing (after freshReading calls)) c
+same-refusal calls c =
+    let v : Standing = standing (after freshReading calls) in
+    ap (λ (b : Bool). firstOf (inputTests c ++ ((20, b) ∷ stateTests v c))) (never-broken calls) ∙ first-skips (inputTests c) (stateTests v c) 20
+
+-- so one that holds the counts and sums of the standing list holds them after the next call
+pub book-follows : (calls : List Call) (c : Call)
+    → standing (next (after freshReading calls) c)
+    ≡ cond (eqb (bookRefusal (standing (after freshReading calls)) c) 0) (taken (standing (after freshReading calls)) c) (standing (after freshReading calls))
+book-follows calls c =
+    by-test (eqb (refusal v c) 0) (λ t. standing (cond t (Plain.taken r c) r) ≡ cond t (taken v c) v) (λ t. follows r c) (λ t. refl)
+    ∙ ap (λ (n : ℕ). cond (eqb n 0) (taken v c) v) (sym (same-refusal calls c))
+  where
+    r : Reading
+    r = after freshReading calls
+
+    v : Standing
+    v = standing r
+
+-- ---- the length
+
+section-long : (x : Section) → unfit x ≡ false → pos 1 ≤ℤ x .distance
+section-long x e =
+    test-le (and-l (leZ (pos 1) (x .distance)) (leZ (x .distance) (pos 1200000))
+    (and-r (within (x .height) 50000000) (between (pos 1) (x .distance) (pos 1200000))
+    (and-l (legFits x) (within (x .discrepancy) 100000) (not-false (sectionFits x) e))))
+
+-- a line is as long as it has sections
+line-long : (ss : List Section) → anyOf unfit ss ≡ false → pos (length ss) ≤ℤ lineLength ss
+line-long [] e = omega ints
+line-long (x ∷ xs) e =
+    let h : pos 1 ≤ℤ x .distance = section-long x (or-l (unfit x) (anyOf unfit xs) e) in
+    let k : pos (length xs) ≤ℤ lineLength xs = line-long xs (or-r (unfit x) (anyOf unfit xs) e) in
+    omega (ints, parts-add (x .distance) (lineLength xs))
+
+pub closed-long : (calls : List Call) → after freshReading calls .stage ≡ Closed
+    → pos 1 ≤ℤ lineLength (standing (after freshReading calls) .sections)
+closed-long calls e =
+    let i : Kept (standing (after freshReading calls)) = calls-kept calls in
+    omega (ints, line-long (standing (after freshReading calls) .sections) (i .fit), i .closed e)

@@ -1,0 +1,78 @@
+-- What is claimed of every list of calls from a fresh book: of the closing taken in it (demand 3 of document 01), of the order of refusals, and of refused
+-- and dropped calls.
+use mathlib.Core.Path.{_≡_}
+use mathlib.Core.Bool.{Bool, true, false, cond, _&&_}
+use mathlib.Core.List.{List, [], _∷_, _++_}
+use Prim.Native.Nat.{ℕ}
+use lib.Dec.{eqb}
+use lib.IntN.{ℤ, pos, negℤ}
+use lib.Signed.{_≤ℤ_}
+use Rattle.adjust.specs.declared.Point.{Point}
+use Rattle.adjust.specs.Line.{frameOf, Closing, closing}
+use Rattle.adjust.specs.Claims.{Near, corrections, lastHeight}
+use Rattle.book.specs.declared.Stage.the-variants.{Closed}
+use Rattle.book.specs.Standing.{Standing}
+use Rattle.book.specs.Rules.{Call, open-line, station, end-run, drop-run, drop-section, close-line}
+use Rattle.ledger.specs.Plain.{Reading, freshReading, after, next, taken, refusal, standing, closings}
+
+-- ---- a closing
+
+-- the points after the start
+abbrev pub others : List Point → List Point
+others [] = []
+others (p ∷ ps) = ps
+
+-- `gave` is what closing the standing list v on the known height `end` gave
+pub record SoundClosing (v : Standing) (end : ℤ) (gave : Closing) : Type 0 where
+  -- W, L, n, T, the verdict and each point are what the formulas make of v and the two known heights
+  pub figures : gave ≡ closing (v .line .order) (v .line .start) end (v .sections)
+  -- the bounds of `near` are multiples of L, so they bind
+  pub long : pos 1 ≤ℤ gave .summary .distance
+  -- the corrections of all points use up the closure
+  pub used-up : corrections (gave .points) ≡ negℤ (gave .summary .closure)
+  -- the last height is the known one
+  pub last : lastHeight (pos 0) (gave .points) ≡ end
+  pub near : Near (frameOf (v .line .start .height) end (v .sections)) (pos 0) (pos 0) (v .sections) (others (gave .points))
+
+-- one closing was taken in the list, of the standing list that the calls before it left; it was sound, and no later call changed anything
+pub record ClosedOnce (calls : List Call) : Type 0 where
+  pub before : List Call
+  pub number : ℤ
+  pub end : ℤ
+  pub later : List Call
+  pub split : calls ≡ before ++ (close-line number end ∷ later)
+  pub accepted : refusal (after freshReading before) (close-line number end) ≡ 0
+  pub gave : Closing
+  pub once : closings freshReading calls ≡ gave ∷ []
+  pub sound : SoundClosing (standing (after freshReading before)) end gave
+  pub stays : after freshReading calls ≡ taken (after freshReading before) (close-line number end)
+
+-- whatever the calls, taken or refused: a line that they leave closed was closed once and soundly
+abbrev pub EveryList : Type 0
+EveryList = (calls : List Call) → after freshReading calls .stage ≡ Closed → ClosedOnce calls
+
+-- ---- the number given
+
+-- the numbers as they stand, but 31 before 30
+abbrev pub before30 : ℕ → ℕ
+before30 n = cond (eqb n 31) 30 (cond (eqb n 30) 31 n)
+
+-- ---- refused calls, and stations that are dropped
+
+-- the calls of a list that are taken
+abbrev pub takenOnly : Reading → List Call → List Call
+takenOnly r [] = []
+takenOnly r (c ∷ cs) = cond (eqb (refusal r c) 0) (c ∷ []) [] ++ takenOnly (next r c) cs
+
+abbrev pub isStation : Call → Bool
+isStation (open-line order instrument number height) = false
+isStation (station kb kf readings) = true
+isStation (end-run number) = false
+isStation drop-run = false
+isStation drop-section = false
+isStation (close-line number end) = false
+
+-- every call of a list is a station
+abbrev pub stationsOnly : List Call → Bool
+stationsOnly [] = true
+stationsOnly (c ∷ cs) = isStation c && stationsOnly cs

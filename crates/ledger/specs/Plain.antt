@@ -1,0 +1,189 @@
+-- Document 01's 'plain reading' of a list of calls: it keeps lists of stations and no sum, and judges each call by the rules read over these lists.
+-- Its 'standing list' is what a `Reading` keeps: the finished sections, the outward list that waits and the list of the present run.
+use mathlib.Core.Bool.{cond}
+use mathlib.Core.List.{List, [], _∷_, _++_, map}
+use mathlib.Core.Option.{Option, none, some}
+use Prim.Native.Nat.{ℕ}
+use lib.ListN.{length}
+use lib.Dec.{eqb}
+use lib.IntN.{ℤ, pos}
+use Rattle.numbers.specs.Whole.{sum, lastOf}
+use Rattle.station.specs.declared.Order.{Order}
+use Rattle.station.specs.declared.Order.the-variants.{Fourth}
+use Rattle.station.specs.declared.Instrument.{Instrument}
+use Rattle.station.specs.declared.Instrument.the-variants.{Ds3}
+use Rattle.station.specs.Station.{Station, stationOf, sights, sightDifference, twiceHeight}
+use Rattle.adjust.specs.declared.Benchmark.{Benchmark}
+use Rattle.adjust.specs.declared.Section.{Section}
+use Rattle.adjust.specs.Line.{Closing, closing}
+use Rattle.book.specs.declared.Stage.{Stage}
+use Rattle.book.specs.declared.Stage.the-variants.{Fresh, Open, Closed}
+use Rattle.book.specs.declared.Run.{Run}
+use Rattle.book.specs.declared.Waiting.{Waiting}
+use Rattle.book.specs.declared.Waiting.the-variants.{Nothing, Outward}
+use Rattle.book.specs.Standing.{Standing, oneWay, bothWays, twoWay}
+use Rattle.book.specs.Rules as Rules
+use Rattle.book.specs.Rules.{Call, open-line, station, end-run, drop-run, drop-section, close-line, orderOf, instrumentOf}
+
+-- a finished section: its number, its outward list and, where it was levelled both ways, its return list
+pub record Levelled : Type 0 where
+  pub number : ℤ
+  pub outward : List Station
+  pub back : Option (List Station)
+
+-- an outward list that waits for its return
+pub record Awaited : Type 0 where
+  pub number : ℤ
+  pub outward : List Station
+
+pub record Reading : Type 0 where
+  pub stage : Stage
+  pub order : Order
+  pub instrument : Instrument
+  pub start : Benchmark
+  -- the end height; a placeholder until the line is closed
+  pub end : ℤ
+  pub sections : List Levelled
+  pub waiting : Option Awaited
+  pub present : List Station
+
+-- ---- the counts and sums of the lists
+
+abbrev pub runOf : List Station → Run
+runOf xs =
+    record {
+      count = length xs;
+      height = sum (map twiceHeight xs);
+      sights = sum (map sights xs);
+      difference = sum (map sightDifference xs);
+      last = lastOf (pos 0) (map (λ (x : Station). x .fore .constant) xs);
+    }
+
+abbrev pub sectionOf : Levelled → Section
+sectionOf x = go (x .back)
+  where
+    go : Option (List Station) → Section
+    go none = oneWay (x .number) (runOf (x .outward))
+    go (some back) = bothWays (x .number) (runOf (x .outward)) (runOf back)
+
+abbrev pub waitingOf : Option Awaited → Waiting
+waitingOf none = Nothing
+waitingOf (some w) = Outward (w .number) (runOf (w .outward))
+
+abbrev pub standing : Reading → Standing
+standing r =
+    record {
+      line =
+          record {
+            stage = r .stage;
+            order = r .order;
+            instrument = r .instrument;
+            start = r .start;
+            end = r .end;
+            waiting = waitingOf (r .waiting);
+            present = runOf (r .present);
+          };
+      sections = map sectionOf (r .sections);
+    }
+
+-- ---- what is kept of a call that is taken
+
+-- the reading with other lists
+abbrev pub withLists : Reading → List Levelled → Option Awaited → List Station → Reading
+withLists r sections waiting present =
+    record {
+      stage = r .stage;
+      order = r .order;
+      instrument = r .instrument;
+      start = r .start;
+      end = r .end;
+      sections = sections;
+      waiting = waiting;
+      present = present;
+    }
+
+abbrev pub runEnded : Reading → ℤ → Reading
+runEnded r number = go (r .waiting)
+  where
+    finished : Levelled → Reading
+    finished x = withLists r (r .sections ++ (x ∷ [])) none []
+
+    go : Option Awaited → Reading
+    go none =
+        cond (twoWay (r .order))
+        (withLists r (r .sections) (some (record { number = number; outward = r .present })) [])
+        (finished (record { number = number; outward = r .present; back = none }))
+    go (some w) = finished (record { number = w .number; outward = w .outward; back = some (r .present) })
+
+abbrev pub taken : Reading → Call → Reading
+taken r (open-line order instrument number height) =
+    record {
+      stage = Open;
+      order = orderOf order;
+      instrument = instrumentOf instrument;
+      start = record { number = number; height = height };
+      end = pos 0;
+      sections = [];
+      waiting = none;
+      present = [];
+    }
+taken r (station kb kf readings) = withLists r (r .sections) (r .waiting) (r .present ++ (stationOf kb kf readings ∷ []))
+taken r (end-run number) = runEnded r number
+taken r drop-run = withLists r (r .sections) (r .waiting) []
+taken r drop-section = withLists r (r .sections) none []
+taken r (close-line number end) =
+    record {
+      stage = Closed;
+      order = r .order;
+      instrument = r .instrument;
+      start = r .start;
+      end = end;
+      sections = r .sections;
+      waiting = r .waiting;
+      present = r .present;
+    }
+
+-- ---- a list of calls
+
+abbrev pub refusal : Reading → Call → ℕ
+refusal r c = Rules.refusal (standing r) c
+
+-- a refused call changes nothing of what is kept
+abbrev pub next : Reading → Call → Reading
+next r c = cond (eqb (refusal r c) 0) (taken r c) r
+
+-- nothing is opened: the order, the instrument, the start and the end height are placeholders, which no rule looks at before a line is opened
+abbrev pub freshReading : Reading
+freshReading =
+    record {
+      stage = Fresh;
+      order = Fourth;
+      instrument = Ds3;
+      start = record { number = pos 0; height = pos 0 };
+      end = pos 0;
+      sections = [];
+      waiting = none;
+      present = [];
+    }
+
+abbrev pub after : Reading → List Call → Reading
+after r [] = r
+after r (c ∷ cs) = after (next r c) cs
+
+abbrev pub refusals : Reading → List Call → List ℕ
+refusals r [] = []
+refusals r (c ∷ cs) = refusal r c ∷ refusals (next r c) cs
+
+-- what a call that is taken gives beside the book: a closing its figures, another call nothing
+abbrev pub given : Reading → Call → List Closing
+given r (open-line order instrument number height) = []
+given r (station kb kf readings) = []
+given r (end-run number) = []
+given r drop-run = []
+given r drop-section = []
+given r (close-line number end) = closing (r .order) (r .start) end (standing r .sections) ∷ []
+
+-- what the closings taken in a list of calls gave, in order
+abbrev pub closings : Reading → List Call → List Closing
+closings r [] = []
+closings r (c ∷ cs) = cond (eqb (refusal r c) 0) (given r c) [] ++ closings (next r c) cs

@@ -1,0 +1,147 @@
+-- Document 01's worked lines, computed by the rules: the starred lines of 'Checked by hand' as one fact, and case A.
+use mathlib.Core.Path.{_≡_, refl}
+use mathlib.Core.Bool.{true, false}
+use mathlib.Core.List.{List, [], _∷_, map}
+use Prim.Native.Nat.{ℕ}
+use lib.IntN.{ℤ, pos, negℤ, _*ℤ_}
+use Rattle.roots.specs.Round.{roundEven}
+use Rattle.roots.specs.Limit.{isWithin}
+use Rattle.station.specs.Station.{Station, stationOf, sightDifference, faceDifference, twiceHeight}
+use Rattle.adjust.specs.declared.Section.{Section}
+use Rattle.adjust.specs.declared.Point.{Point}
+use Rattle.adjust.specs.Line.{Frame, frameOf, exactTop, closure, Closing, accidental}
+use Rattle.book.specs.Rules.{Call, open-line, station, end-run, close-line, discrepancyWithin}
+use Rattle.ledger.specs.Plain.{freshReading, after, refusals, standing, runOf, closings}
+
+-- ---- case A
+
+-- upper thread, lower thread, black and red middle
+abbrev staff : ℕ → ℕ → ℕ → ℕ → List ℤ
+staff u l m r = pos u ∷ pos l ∷ pos m ∷ pos r ∷ []
+
+abbrev readings1 : List (List ℤ)
+readings1 = staff 1571 1197 1384 6171 ∷ staff 739 363 551 5239 ∷ []
+
+abbrev readings2 : List (List ℤ)
+readings2 = staff 1965 1700 1832 6519 ∷ staff 2141 1874 2007 6793 ∷ []
+
+abbrev a1 : Call
+a1 = station (pos 4787) (pos 4687) readings1
+
+abbrev a2 : Call
+a2 = station (pos 4687) (pos 4787) readings2
+
+abbrev a3 : Call
+a3 = station (pos 4787) (pos 4687) (staff 1300 1100 1200 5987 ∷ staff 1000 800 900 5587 ∷ [])
+
+abbrev a4 : Call
+a4 = station (pos 4687) (pos 4787) (staff 1500 1300 1400 6087 ∷ staff 1250 1050 1150 5937 ∷ [])
+
+-- fourth order, DS3, from benchmark 1
+abbrev open4 : ℕ → Call
+open4 height = open-line (pos 4) (pos 3) (pos 1) (pos height)
+
+abbrev caseA : List Call
+caseA = open4 10000 ∷ a1 ∷ a2 ∷ end-run (pos 2) ∷ a3 ∷ a4 ∷ end-run (pos 3) ∷ close-line (pos 3) (pos 11206) ∷ []
+
+abbrev point : ℕ → ℕ → ℤ → ℕ → Point
+point n s c h = record { number = pos n; distance = pos s; correction = c; height = pos h }
+
+caseA-refusals : refusals freshReading caseA ≡ 0 ∷ 0 ∷ 0 ∷ 0 ∷ 0 ∷ 0 ∷ 0 ∷ 0 ∷ []
+unfolding isWithin
+caseA-refusals = refl
+
+caseA-closings :
+    closings freshReading caseA
+    ≡ record {
+      summary = record { closure = pos 8; distance = pos 4164; count = 2; accidental = pos 0; verdict = 0 };
+      points = point 1 0 (pos 0) 10000 ∷ point 2 2564 (negℤ (pos 4)) 10657 ∷ point 3 4164 (negℤ (pos 4)) 11206 ∷ [];
+    } ∷ []
+unfolding roundEven isWithin
+caseA-closings = refl
+
+-- ---- the starred lines
+
+abbrev s1 : Station
+s1 = stationOf (pos 4787) (pos 4687) readings1
+
+abbrev s2 : Station
+s2 = stationOf (pos 4687) (pos 4787) readings2
+
+-- A's section 1 alone, and A's section 2 twice, between two heights
+abbrev one : ℕ → ℕ → List Call
+one start end = open4 start ∷ a1 ∷ a2 ∷ end-run (pos 2) ∷ close-line (pos 2) (pos end) ∷ []
+
+abbrev two : ℕ → ℕ → List Call
+two start end = open4 start ∷ a3 ∷ a4 ∷ end-run (pos 2) ∷ a3 ∷ a4 ∷ end-run (pos 3) ∷ close-line (pos 3) (pos end) ∷ []
+
+abbrev twoFrame : ℕ → ℕ → Frame
+twoFrame start end = frameOf (pos start) (pos end) (standing (after freshReading (two start end)) .sections)
+
+abbrev section : ℕ → ℕ → ℕ → ℕ → Section
+section n q r d = record { number = pos n; height = pos q; distance = pos r; discrepancy = pos d }
+
+abbrev closures : List Closing → List ℤ
+closures cs = map (λ (c : Closing). c .summary .closure) cs
+
+abbrev heights : List Closing → List (List ℤ)
+heights cs = map (λ (c : Closing). map (λ (p : Point). p .height) (c .points)) cs
+
+pub record Starred : Type 0 where
+  -- A's first station
+  pub first-d : sightDifference s1 ≡ negℤ (pos 2)
+  pub first-back-e : faceDifference (s1 .back) ≡ pos 0
+  pub first-fore-e : faceDifference (s1 .fore) ≡ negℤ (pos 1)
+  pub first-height : twiceHeight s1 ≡ pos 1665
+  -- its second
+  pub second-back-e : faceDifference (s2 .back) ≡ pos 0
+  pub second-fore-e : faceDifference (s2 .fore) ≡ pos 1
+  pub second-height : twiceHeight s2 ≡ negℤ (pos 349)
+  pub accumulated : runOf (s1 ∷ s2 ∷ []) .difference ≡ negℤ (pos 4)
+  -- A's section 1, and that section alone from 10000
+  pub section-1 : standing (after freshReading (one 10000 10651)) .sections ≡ section 2 2632 2564 0 ∷ []
+  pub w28 : closures (closings freshReading (one 10000 10651)) ≡ pos 28 ∷ []
+  pub w28-taken : refusals freshReading (one 10000 10651) ≡ 0 ∷ 0 ∷ 0 ∷ 0 ∷ 0 ∷ []
+  pub w32 : closure (pos 10000) (pos 10650) (standing (after freshReading (one 10000 10650)) .sections) ≡ pos 32
+  pub w32-refused : refusals freshReading (one 10000 10650) ≡ 0 ∷ 0 ∷ 0 ∷ 0 ∷ 36 ∷ []
+  -- D and t
+  pub d8 : discrepancyWithin (section 2 0 2564 8) ≡ true
+  pub d9 : discrepancyWithin (section 2 0 2564 9) ≡ false
+  pub t : accidental (section 2 0 20000 24) ≡ pos 14400
+  -- A's section 2 twice: the middle is 21099 / 2 and 21101 / 2, at Q 2200 and R 1600
+  pub section-2 : standing (after freshReading (two 10000 11099)) .sections ≡ section 2 2200 1600 0 ∷ section 3 2200 1600 0 ∷ []
+  pub tie-1-w : closures (closings freshReading (two 10000 11099)) ≡ pos 4 ∷ []
+  pub tie-1-exact : pos 2 *ℤ exactTop (twoFrame 10000 11099) (pos 2200) (pos 1600)
+      ≡ pos 21099 *ℤ (twoFrame 10000 11099 .units *ℤ twoFrame 10000 11099 .total)
+  pub tie-1 : heights (closings freshReading (two 10000 11099)) ≡ (pos 10000 ∷ pos 10550 ∷ pos 11099 ∷ []) ∷ []
+  pub tie-2-exact : pos 2 *ℤ exactTop (twoFrame 10001 11100) (pos 2200) (pos 1600)
+      ≡ pos 21101 *ℤ (twoFrame 10001 11100 .units *ℤ twoFrame 10001 11100 .total)
+  pub tie-2 : heights (closings freshReading (two 10001 11100)) ≡ (pos 10001 ∷ pos 10550 ∷ pos 11100 ∷ []) ∷ []
+
+pub starred : Starred
+unfolding roundEven isWithin
+starred =
+    record {
+      first-d = refl;
+      first-back-e = refl;
+      first-fore-e = refl;
+      first-height = refl;
+      second-back-e = refl;
+      second-fore-e = refl;
+      second-height = refl;
+      accumulated = refl;
+      section-1 = refl;
+      w28 = refl;
+      w28-taken = refl;
+      w32 = refl;
+      w32-refused = refl;
+      d8 = refl;
+      d9 = refl;
+      t = refl;
+      section-2 = refl;
+      tie-1-w = refl;
+      tie-1-exact = refl;
+      tie-1 = refl;
+      tie-2-exact = refl;
+      tie-2 = refl;
+    }
