@@ -4,3 +4,4 @@ pub mod Lists
 pub mod Bounded
 pub mod Sized
 pub mod Over
+pub mod Holding

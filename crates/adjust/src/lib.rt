@@ -71,7 +71,8 @@ pub struct Totals {
     pub distance: i64,
 }
 
-pub(crate) fn height_in_range(h: i64) -> bool
+// Whether a height is in document 01's range.
+pub fn height_in_range(h: i64) -> bool
     ensures { λ r. ⌜ r ≡ heightInRange h ⌝ }
 {
     (-999999 <= h) & (h <= 8999999)

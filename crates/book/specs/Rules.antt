@@ -86,6 +86,12 @@ inputTests drop-run = []
 inputTests drop-section = []
 inputTests (close-line number end) = (4, not (numberInRange number)) ∷ (5, not (heightInRange end)) ∷ []
 
+-- of a line between its start and the end height: its length and its closure
+abbrev pub lineTests : Standing → ℤ → List (ℕ × Bool)
+lineTests v end =
+    (35, not (leZ (lineLength (v .sections)) (lengthLimit (v .line .order) (isShut v))))
+    ∷ (36, not (closureWithin (v .line .order) (closure (v .line .start .height) end (v .sections)) (lineLength (v .sections)))) ∷ []
+
 -- what the standing list causes
 abbrev pub stateTests : Standing → Call → List (ℕ × Bool)
 stateTests v (open-line order instrument number height) = (21, not (isFresh (v .line .stage))) ∷ []
@@ -106,15 +112,14 @@ stateTests v (close-line number end) =
     (21, not (isOpen (v .line .stage)))
     ∷ (33, not (eqb (v .line .present .count) 0) || isReturn (v .line .waiting) || isEmpty (v .sections))
     ∷ (34, not (eqZ number (began v)) || (isShut v && not (eqZ end (v .line .start .height))))
-    ∷ (35, not (leZ (lineLength (v .sections)) (lengthLimit (v .line .order) (isShut v))))
-    ∷ (36, not (closureWithin (v .line .order) (closure (v .line .start .height) end (v .sections)) (lineLength (v .sections)))) ∷ []
+    ∷ lineTests v end
 
 -- the number that the rules give, 0 where the call is taken
 abbrev pub refusal : Standing → Call → ℕ
 refusal v c = firstOf (inputTests c ++ stateTests v c)
 
 -- and that a book gives, which also tests for 20
-abbrev pub bookRefusal : Standing → Call → ℕ
+unfoldable pub bookRefusal : Standing → Call → ℕ
 bookRefusal v c = firstOf (inputTests c ++ ((20, broken v) ∷ stateTests v c))
 
 -- ---- what a call that is taken leaves

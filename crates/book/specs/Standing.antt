@@ -104,8 +104,13 @@ twoWay Fourth = false
 abbrev pub runFits : Run → Bool
 runFits u = leb (u .count) 200 && within (u .height) 25000000 && between (pos 0) (u .sights) (pos 600000) && within (u .difference) 1000000
 
+-- a waiting run beside 64 sections would make the 65th
+abbrev pub waitingBroken : Waiting → ℕ → Bool
+waitingBroken w count = outwardOrReturn w false (λ number run. not (runFits run) || leb 64 count)
+
+abbrev pub lineBroken : Line → ℕ → Bool
+lineBroken l count =
+    not (runFits (l .present)) || waitingBroken (l .waiting) count || not (heightInRange (l .start .height)) || not (heightInRange (l .end))
+
 unfoldable pub broken : Standing → Bool
-broken v =
-    misfit (v .sections) || not (runFits (v .line .present))
-    || outwardOrReturn (v .line .waiting) false (λ number run. not (runFits run) || leb 64 (length (v .sections)))
-    || not (heightInRange (v .line .start .height)) || not (heightInRange (v .line .end))
+broken v = misfit (v .sections) || lineBroken (v .line) (length (v .sections))

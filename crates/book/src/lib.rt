@@ -1,8 +1,11 @@
 // The book of one levelling line.
-use adjust::Benchmark;
-use adjust::Sections;
-use station::Instrument;
-use station::Order;
+ghost use mathlib.Core.Path.{_≡_};
+ghost use Rattle.book.specs.Calls.{freshBook};
+use adjust::{Answer, Benchmark, Sections};
+use station::{Instrument, Order};
+mod closing;
+mod refusals;
+mod state;
 
 pub enum Stage {
     Fresh,
@@ -39,4 +42,47 @@ pub struct Line {
 pub struct Book {
     pub line: Line,
     pub sections: Sections,
+}
+
+// What a call answers, and the book that it leaves: the very book where it is refused.
+pub struct Outcome {
+    pub answer: Answer,
+    pub book: Book,
+}
+
+// A book with nothing in it.
+pub fn fresh() -> Book
+    ensures { λ r. ⌜ r ≡ freshBook ⌝ }
+{
+    let none = Run {
+        count: 0,
+        height: 0,
+        sights: 0,
+        difference: 0,
+        last: 0,
+    };
+    let start = Benchmark {
+        number: 0,
+        height: 0,
+    };
+    let line = Line {
+        stage: Stage::Fresh,
+        order: Order::Fourth,
+        instrument: Instrument::Ds3,
+        start: start,
+        end: 0,
+        waiting: Waiting::Nothing,
+        present: none,
+    };
+    let sections = Sections {
+        count: 0,
+        numbers: [0; 64],
+        heights: [0; 64],
+        distances: [0; 64],
+        discrepancies: [0; 64],
+    };
+    Book {
+        line: line,
+        sections: sections,
+    }
 }

@@ -1,0 +1,3 @@
+-- What the calls' proofs and the crates above cite: the parts of a refusal, what an unbroken book is bounded by, and how a call's outcome is joined.
+pub mod Parts
+pub mod Unbroken

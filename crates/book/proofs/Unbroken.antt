@@ -1,0 +1,91 @@
+-- An unbroken book: what the test of 20 leaves to know of its counts and sums.
+use mathlib.Core.Path.{_≡_, refl, sym, ap, _∙_}
+use mathlib.Core.Bool.{Bool, true, false, not, _&&_, _||_}
+use Prim.Native.Nat.{ℕ, zero, suc, _≤_, _<_}
+use native.Mathlib.Omega.{arith}
+use lib.Dec.{leb, eqb, eqb·suc-zero, leb→le, nleb→lt}
+use lib.ListN.{length}
+use lib.IntN.{ℤ, pos, natAbs}
+use lib.Signed.{_≤ℤ_}
+use Rattle.numbers.specs.Whole.{within, between}
+use Rattle.numbers.proofs.Tests.{holds, fails, and-l, and-r, or-l, or-r, not-false}
+use Rattle.numbers.proofs.Sizes.{between-size, within-size}
+use Rattle.numbers.proofs.All.{All}
+use Rattle.adjust.specs.declared.Sections.{Sections}
+use Rattle.adjust.specs.Sections.{sectionsFrom, sectionsOf, sectionFits, anyOutside, misfit, heightInRange}
+use Rattle.adjust.proofs.Lists.{from-length}
+use Rattle.book.specs.declared.Run.{Run}
+use Rattle.book.specs.declared.Waiting.{Waiting}
+use Rattle.book.specs.declared.Waiting.the-variants.{Nothing, Outward}
+use Rattle.book.specs.declared.Book.{Book}
+use Rattle.book.specs.Bounds.{SmallRun, SmallRuns}
+use Rattle.book.specs.Standing.{standingOf, isEmpty, outwardOrReturn, runFits, waitingBroken, lineBroken, broken}
+
+pub small-run : (u : Run) → runFits u ≡ true → SmallRun u
+small-run u e =
+    let n = leb (u .count) 200 in
+    let h = within (u .height) 25000000 in
+    let s = between (pos 0) (u .sights) (pos 600000) in
+    let d = within (u .difference) 1000000 in
+    record {
+      count = leb→le (u .count) 200 (holds (and-l n h (and-l (n && h) s (and-l (n && h && s) d e))));
+      height = within-size (u .height) 25000000 (and-r n h (and-l (n && h) s (and-l (n && h && s) d e)));
+      sights = between-size (u .sights) 600000 (and-r (n && h) s (and-l (n && h && s) d e));
+      difference = within-size (u .difference) 1000000 (and-r (n && h && s) d e);
+    }
+
+-- a waiting run is small, and leaves room for its section
+abbrev pub SmallWaiting : Waiting → ℕ → Type 0
+SmallWaiting Nothing count = Unit {0}
+SmallWaiting (Outward number run) count = SmallRun run × (count < 64)
+
+small-waiting : (w : Waiting) (count : ℕ) → waitingBroken w count ≡ false → SmallWaiting w count
+small-waiting Nothing count e = tt
+small-waiting (Outward number run) count e =
+    (small-run run (not-false (runFits run) (or-l (not (runFits run)) (leb 64 count) e)), nleb→lt 64 count (fails (or-r (not (runFits run)) (leb 64 count) e)))
+
+pub record Unbroken (b : Book) : Type 0 where
+  pub few : b .sections .count ≤ 64
+  pub fit : misfit (sectionsOf (b .sections)) ≡ false
+  pub present : SmallRun (b .line .present)
+  pub waiting : SmallWaiting (b .line .waiting) (b .sections .count)
+  pub start : heightInRange (b .line .start .height) ≡ true
+  pub end : heightInRange (b .line .end) ≡ true
+
+pub unbroken : (b : Book) → broken (standingOf b) ≡ false → Unbroken b
+unfolding broken
+unbroken b e =
+    let l = b .line in
+    let ss = sectionsOf (b .sections) in
+    let n = from-length (b .sections) 0 (b .sections .count) in
+    let fit = or-l (misfit ss) (lineBroken l (length ss)) e in
+    let line = ap (λ (m : ℕ). lineBroken l m) (sym n) ∙ or-r (misfit ss) (lineBroken l (length ss)) e in
+    let u = not (runFits (l .present)) in
+    let w = waitingBroken (l .waiting) (b .sections .count) in
+    let s = not (heightInRange (l .start .height)) in
+    let t = not (heightInRange (l .end)) in
+    record {
+      few = omega (arith, n, leb→le (length ss) 64 (holds (not-false (leb (length ss) 64) (or-l (not (leb (length ss) 64)) (anyOutside false ss) fit))));
+      fit = fit;
+      present = small-run (l .present) (not-false (runFits (l .present)) (or-l u w (or-l (u || w) s (or-l (u || w || s) t line))));
+      waiting = small-waiting (l .waiting) (b .sections .count) (or-r u w (or-l (u || w) s (or-l (u || w || s) t line)));
+      start = not-false (heightInRange (l .start .height)) (or-r (u || w) s (or-l (u || w || s) t line));
+      end = not-false (heightInRange (l .end)) (or-r (u || w || s) t line);
+    }
+
+-- both runs together
+pub small-runs : (b : Book) → Unbroken b → SmallRuns (b .line .waiting) (b .line .present)
+small-runs b u = go (b .line .waiting) (u .waiting)
+  where
+    go : (w : Waiting) → SmallWaiting w (b .sections .count) → SmallRuns w (b .line .present)
+    go Nothing h = u .present
+    go (Outward number run) h = (h .0, u .present)
+
+-- no section stands where the arrays count none
+empty-from : (s : Sections) (k n : ℕ) → isEmpty (sectionsFrom s k n) ≡ eqb n 0
+unfolding sectionsFrom
+empty-from s k zero = refl
+empty-from s k (suc n) = sym (eqb·suc-zero n)
+
+pub empty-count : (s : Sections) → isEmpty (sectionsOf s) ≡ eqb (s .count) 0
+empty-count s = empty-from s 0 (s .count)

@@ -1,0 +1,69 @@
+-- `end_refusal` meets its contract, by the parts of a refusal.
+use mathlib.Core.Path.{_≡_, sym, ap, _∙_}
+use mathlib.Core.Bool.{Bool, true, false, not, cond}
+use Prim.Native.Nat.{ℕ}
+use native.Mathlib.Omega.{arith}
+use lib.IntN.{ℤ}
+use Rattle.numbers.specs.Tables.{firstOf}
+use Rattle.numbers.proofs.Machine.{stored-id}
+use Rattle.book.specs.Standing.{standingOf}
+use Rattle.book.specs.Rules.{end-run, numberInRange, inputTests, stateTests}
+use Rattle.book.proofs.Parts.{input-refused, broken-refused, state-refused}
+use borrow.Author.Needs.{needs}
+use Rattle.book.proofs.refusals.end_refusal.Statement.{statement}
+use Rattle.book.proofs.refusals.end_refusal.Tie as tie
+use Rattle.book.proofs.refusals.end_refusal.Reads as reads
+use Rattle.book.proofs.refusals.end_refusal.Lts as lts
+use Rattle.book.proofs.refusals.end_state.Reads as end-state-reads
+use Rattle.book.proofs.refusals.number_in_range.Reads as number-in-range-reads
+use Rattle.book.proofs.state.is_broken.Reads as is-broken-reads
+
+-- src/refusals.rt:174:9
+number-in-range-requires : tie.Need-number-in-range-requires
+number-in-range-requires c κs = search needs
+
+-- src/refusals.rt:175:9
+-- the input's number, by whether the benchmark's is in range
+input : (c : tie.After-number-in-range) (t : Bool) → not (c .number-in-range .result) ≡ t → firstOf (inputTests (end-run (c .before .args .number))) ≡ cond t 4 0
+input c t e =
+    ap (λ (b : Bool). cond b 4 0) (sym (ap not (c .number-in-range .ensures ∙ ap numberInRange (stored-id (c .before .fits .number)))) ∙ e)
+
+returns : tie.Need-returns
+returns c =
+    let s = c .before .before in
+    input-refused (standingOf (s .args .b)) (end-run (s .args .number)) 4 (sym (input (c .before) true (c .if1 .taken))) (λ e. absurd (omega arith))
+
+-- src/refusals.rt:177:8
+is-broken-requires : tie.Need-is-broken-requires
+is-broken-requires c κs = search needs
+
+-- src/refusals.rt:178:9
+returns-2 : tie.Need-returns-2
+returns-2 c =
+    let e = c .before .before in
+    let s = e .before .before in
+    broken-refused (standingOf (s .args .b)) (end-run (s .args .number)) (input (e .before) false (e .if1 .left)) (sym (c .before .is-broken .ensures) ∙ c .if2 .taken)
+
+-- src/refusals.rt:180:5
+end-state-requires : tie.Need-end-state-requires
+end-state-requires c κs = sym (c .before .is-broken .ensures) ∙ c .if2 .left
+
+-- src/refusals.rt:171:1
+returns-3 : tie.Need-returns-3
+returns-3 c =
+    let k = c .before in
+    let e = k .before .before in
+    let s = e .before .before in
+    state-refused (standingOf (s .args .b)) (end-run (s .args .number)) (c .end-state .result) (input (e .before) false (e .if1 .left)) (sym (k .before .is-broken .ensures) ∙ k .if2 .left)
+    (c .end-state .ensures ∙ ap (λ (n : ℤ). firstOf (stateTests (standingOf (s .args .b)) (end-run n))) (stored-id (s .fits .number)))
+
+pub end-refusal-spec : {M : Type 1} → statement M
+end-refusal-spec =
+    tie.close
+    (tie.spec
+    number-in-range-requires
+    returns
+    is-broken-requires
+    returns-2
+    end-state-requires
+    returns-3)

@@ -1,0 +1,78 @@
+-- `open_refusal` meets its contract, by the parts of a refusal.
+use mathlib.Core.Path.{_≡_, sym, ap, _∙_}
+use mathlib.Core.Bool.{not, cond}
+use Prim.Native.Nat.{ℕ}
+use lib.IntN.{ℤ}
+use Rattle.numbers.specs.Tables.{firstOf}
+use Rattle.numbers.proofs.Machine.{stored-id}
+use Rattle.book.specs.Standing.{standingOf, isFresh}
+use Rattle.book.specs.Rules.{Call, open-line, inputTests}
+use Rattle.book.proofs.Parts.{input-refused, broken-refused, state-refused}
+use borrow.Author.Needs.{needs}
+use Rattle.book.proofs.refusals.open_refusal.Statement.{statement}
+use Rattle.book.proofs.refusals.open_refusal.Tie as tie
+use Rattle.book.proofs.refusals.open_refusal.Reads as reads
+use Rattle.book.proofs.refusals.open_refusal.Lts as lts
+use Rattle.book.proofs.refusals.open_input.Reads as open-input-reads
+use Rattle.book.proofs.refusals.pick.Reads as pick-reads
+use Rattle.book.proofs.state.is_broken.Reads as is-broken-reads
+use Rattle.book.proofs.state.is_fresh.Reads as is-fresh-reads
+
+-- src/refusals.rt:43:9
+open-input-requires : tie.Need-open-input-requires
+open-input-requires c κs = search needs
+
+-- src/refusals.rt:45:9
+abbrev call : tie.Start → Call
+call s = open-line (s .args .order) (s .args .instrument) (s .args .number) (s .args .height)
+
+number : (c : tie.After-open-input) → c .open-input .result ≡ firstOf (inputTests (call (c .before)))
+number c =
+    let s = c .before in
+    c .open-input .ensures
+    ∙ (λ i. firstOf (inputTests (open-line (stored-id (s .fits .order) i) (stored-id (s .fits .instrument) i) (stored-id (s .fits .number) i) (stored-id (s .fits .height) i))))
+
+returns : tie.Need-returns
+returns c =
+    let s = c .before .before in
+    input-refused (standingOf (s .args .b)) (call s) (c .before .open-input .result) (number (c .before)) (c .if1 .taken)
+
+-- src/refusals.rt:47:8
+is-broken-requires : tie.Need-is-broken-requires
+is-broken-requires c κs = search needs
+
+-- src/refusals.rt:48:9
+returns-2 : tie.Need-returns-2
+returns-2 c =
+    let e = c .before .before in
+    let s = e .before .before in
+    broken-refused (standingOf (s .args .b)) (call s) (sym (number (e .before)) ∙ e .if1 .left) (sym (c .before .is-broken .ensures) ∙ c .if2 .taken)
+
+-- src/refusals.rt:52:11
+is-fresh-requires : tie.Need-is-fresh-requires
+is-fresh-requires c κs = search needs
+
+-- src/refusals.rt:52:5
+pick-requires : tie.Need-pick-requires
+pick-requires c κs = search needs
+
+-- src/refusals.rt:40:1
+returns-3 : tie.Need-returns-3
+returns-3 c =
+    let k = c .before .before .before in
+    let e = k .before .before in
+    let s = e .before .before in
+    state-refused (standingOf (s .args .b)) (call s) (c .pick .result) (sym (number (e .before)) ∙ e .if1 .left) (sym (k .before .is-broken .ensures) ∙ k .if2 .left)
+    (c .pick .ensures ∙ (λ i. cond (not (c .before .is-fresh .ensures i)) 21 0))
+
+pub open-refusal-spec : {M : Type 1} → statement M
+open-refusal-spec =
+    tie.close
+    (tie.spec
+    open-input-requires
+    returns
+    is-broken-requires
+    returns-2
+    is-fresh-requires
+    pick-requires
+    returns-3)

@@ -1,0 +1,41 @@
+-- `same_staff` meets its contract, by whether a run waits.
+use mathlib.Core.Path.{_≡_, sym, ap, _∙_}
+use mathlib.Core.Bool.{false}
+use lib.IntN.{ℤ}
+use mir.Syntax.{w64}
+use mir.Val.{SFits}
+use Rattle.numbers.specs.Whole.{eqZ}
+use Rattle.numbers.proofs.Equal.{eq-as}
+use Rattle.book.specs.declared.Waiting.{Waiting}
+use Rattle.book.specs.Standing.{outwardOrReturn}
+use borrow.Author.Needs.{needs}
+use Rattle.book.proofs.refusals.same_staff.Statement.{statement}
+use Rattle.book.proofs.refusals.same_staff.Tie as tie
+use Rattle.book.proofs.refusals.same_staff.Reads as reads
+use Rattle.book.proofs.refusals.same_staff.Lts as lts
+
+-- src/refusals.rt:69:29
+enum-told : tie.Need-enum-told
+enum-told c = search needs
+
+-- src/refusals.rt:70:29
+enum-known-waiting : tie.Need-enum-known-waiting
+enum-known-waiting c = search needs
+
+-- src/refusals.rt:65:1
+returns : tie.Need-returns
+returns c = search needs
+
+-- src/refusals.rt:65:1
+last-fits : (c : tie.After-struct-told) → SFits w64 (c .before .before .before .waiting .given .0 .1 .0 .last)
+last-fits c = search needs
+
+returns-2 : tie.Need-returns-2
+returns-2 c =
+    let w = c .before .before .before in
+    let s = w .before .before in
+    eq-as (s .fits .kb) (last-fits c)
+    ∙ sym (ap (λ (x : Waiting). outwardOrReturn x false (λ number run. eqZ (s .args .kb) (run .last))) (w .waiting .given .1))
+
+pub same-staff-spec : {M : Type 1} → statement M
+same-staff-spec = tie.close (tie.spec enum-told enum-known-waiting returns returns-2)

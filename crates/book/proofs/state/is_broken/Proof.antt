@@ -1,0 +1,35 @@
+-- `is_broken` meets its contract: the list has as many sections as the arrays count.
+use mathlib.Core.Path.{_≡_, sym, ap, _∙_}
+use mathlib.Core.Bool.{_||_}
+use Prim.Native.Nat.{ℕ}
+use Rattle.adjust.specs.Sections.{misfit, sectionsOf}
+use Rattle.adjust.proofs.Lists.{from-length}
+use Rattle.book.specs.Standing.{lineBroken, broken}
+use borrow.Author.Needs.{needs}
+use Rattle.book.proofs.state.is_broken.Statement.{statement}
+use Rattle.book.proofs.state.is_broken.Tie as tie
+use Rattle.book.proofs.state.is_broken.Reads as reads
+use Rattle.book.proofs.state.is_broken.Lts as lts
+use Rattle.adjust.proofs.table.misfits.Reads as misfits-reads
+use Rattle.book.proofs.state.line_broken.Reads as line-broken-reads
+
+-- src/state.rt:106:5
+misfits-requires : tie.Need-misfits-requires
+misfits-requires c κs = search needs
+
+-- src/state.rt:106:40
+line-broken-requires : tie.Need-line-broken-requires
+line-broken-requires c κs = search needs
+
+-- src/state.rt:101:1
+returns : tie.Need-returns
+unfolding broken
+returns c =
+    let m = c .before in
+    let s = m .before .before .before in
+    let t = s .args .b .sections in
+    let line = c .line-broken .ensures ∙ ap (lineBroken (s .args .b .line)) (sym (from-length t 0 (t .count))) in
+    λ i. m .misfits .ensures i || line i
+
+pub is-broken-spec : {M : Type 1} → statement M
+is-broken-spec = tie.close (tie.spec misfits-requires line-broken-requires returns)

@@ -1,0 +1,107 @@
+// What the rules look at: where the line stands, and whether a book's counts and sums are such as calls can leave.
+ghost use mathlib.Core.Path.{_≡_};
+ghost use mathlib.Core.List.{map};
+ghost use Prim.Native.Nat.{_≤_};
+ghost use Rattle.numbers.specs.Whole.{anyOf, eqZ, lastOf};
+ghost use Rattle.adjust.specs.declared.Section.{Section};
+ghost use Rattle.adjust.specs.Sections.{sectionsOf};
+ghost use Rattle.book.specs.Standing.{standingOf, isFresh, isOpen, isReturn, runFits, waitingBroken, lineBroken, broken};
+use super::{Book, Line, Run, Stage, Waiting};
+use adjust::Sections;
+use roots::limits::magnitude;
+
+pub(crate) fn is_fresh(stage: Stage) -> bool
+    ensures { λ r. ⌜ r ≡ isFresh stage ⌝ }
+{
+    match stage {
+        Stage::Fresh => true,
+        Stage::Open => false,
+        Stage::Closed => false,
+    }
+}
+
+pub(crate) fn is_open(stage: Stage) -> bool
+    ensures { λ r. ⌜ r ≡ isOpen stage ⌝ }
+{
+    match stage {
+        Stage::Fresh => false,
+        Stage::Open => true,
+        Stage::Closed => false,
+    }
+}
+
+pub(crate) fn is_return(waiting: Waiting) -> bool
+    ensures { λ r. ⌜ r ≡ isReturn waiting ⌝ }
+{
+    match waiting {
+        Waiting::Nothing => false,
+        Waiting::Outward(_, _) => true,
+    }
+}
+
+// Whether a finished section ends on this benchmark.
+pub(crate) fn on_line(s: Sections, number: i64) -> bool
+    requires { ⌜ s .count ≤ 64 ⌝ }
+    ensures { λ r. ⌜ r ≡ anyOf (λ (x : Section). eqZ (x .number) number) (sectionsOf s) ⌝ }
+{
+    let count = s.count;
+    let mut k = 0;
+    while k < count {
+        if s.numbers[k] == number {
+            return true;
+        }
+        k += 1;
+    }
+    false
+}
+
+// The benchmark where the present section began.
+pub(crate) fn began_at(start: i64, s: Sections) -> i64
+    requires { ⌜ s .count ≤ 64 ⌝ }
+    ensures { λ r. ⌜ r ≡ lastOf start (map (λ (x : Section). x .number) (sectionsOf s)) ⌝ }
+{
+    let count = s.count;
+    if count == 0 {
+        return start;
+    }
+    let last = count - 1;
+    s.numbers[last]
+}
+
+fn run_fits(u: Run) -> bool
+    ensures { λ r. ⌜ r ≡ runFits u ⌝ }
+{
+    (u.count <= 200)
+        & (magnitude(u.height) <= 25000000)
+        & ((0 <= u.sights) & (u.sights <= 600000))
+        & (magnitude(u.difference) <= 1000000)
+}
+
+fn waiting_broken(waiting: Waiting, count: usize) -> bool
+    ensures { λ r. ⌜ r ≡ waitingBroken waiting count ⌝ }
+{
+    match waiting {
+        Waiting::Nothing => false,
+        Waiting::Outward(_, run) => !run_fits(run) | (64 <= count),
+    }
+}
+
+fn line_broken(line: Line, count: usize) -> bool
+    ensures { λ r. ⌜ r ≡ lineBroken line count ⌝ }
+{
+    let waiting = line.waiting;
+    let present = line.present;
+    !run_fits(present)
+        | waiting_broken(waiting, count)
+        | !adjust::height_in_range(line.start.height)
+        | !adjust::height_in_range(line.end)
+}
+
+// Whether a record is none that calls can leave (refusal 20).
+pub(crate) fn is_broken(b: Book) -> bool
+    ensures { λ r. ⌜ r ≡ broken (standingOf b) ⌝ }
+{
+    let sections = b.sections;
+    let line = b.line;
+    adjust::table::misfits(sections) | line_broken(line, sections.count)
+}
