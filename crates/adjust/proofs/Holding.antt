@@ -117,3 +117,8 @@ holding-more s x w h = λ i.
       distances = more s (λ (y : Section). y .distance) (s .distances) (λ k. refl) x (omega (arith, w .distances)) i;
       discrepancies = more s (λ (y : Section). y .discrepancy) (s .discrepancies) (λ k. refl) x (omega (arith, w .discrepancies)) i;
     }
+
+-- no section: the arrays are as they were
+pub holding-none : (s : Sections) → holding s [] ≡ record { count = 0; numbers = s .numbers; heights = s .heights; distances = s .distances; discrepancies = s .discrepancies }
+unfolding holding
+holding-none s = refl

@@ -134,7 +134,8 @@ pub fn adjusted_line(order: Order, start: Benchmark, end: i64, s: Sections) -> A
     no_line()
 }
 
-fn no_line() -> Adjusted
+// No line: zeros.
+pub fn no_line() -> Adjusted
     ensures { λ r. ⌜ r ≡ adjustedOf nothing ⌝ }
 {
     let none = Point {

@@ -1,14 +1,16 @@
 -- An unbroken book: what the test of 20 leaves to know of its counts and sums.
 use mathlib.Core.Path.{_≡_, refl, sym, ap, _∙_}
 use mathlib.Core.Bool.{Bool, true, false, not, _&&_, _||_}
+use mathlib.Core.List.{List, [], _∷_}
 use Prim.Native.Nat.{ℕ, zero, suc, _≤_, _<_}
 use native.Mathlib.Omega.{arith}
-use lib.Dec.{leb, eqb, eqb·suc-zero, leb→le, nleb→lt}
+use lib.Dec.{leb, ltb, eqb, eqb·suc-zero, leb→le, nleb→lt}
 use lib.ListN.{length}
 use lib.IntN.{ℤ, pos, natAbs}
 use lib.Signed.{_≤ℤ_}
+use borrow.Author.Tests.{lt-ltb}
 use Rattle.numbers.specs.Whole.{within, between}
-use Rattle.numbers.proofs.Tests.{holds, fails, and-l, and-r, or-l, or-r, not-false}
+use Rattle.numbers.proofs.Tests.{holds, fails, no-true, and-l, and-r, or-l, or-r, not-false}
 use Rattle.numbers.proofs.Sizes.{between-size, within-size}
 use Rattle.numbers.proofs.All.{All}
 use Rattle.adjust.specs.declared.Sections.{Sections}
@@ -89,3 +91,8 @@ empty-from s k (suc n) = sym (eqb·suc-zero n)
 
 pub empty-count : (s : Sections) → isEmpty (sectionsOf s) ≡ eqb (s .count) 0
 empty-count s = empty-from s 0 (s .count)
+
+-- a list that is not empty has a length above 0
+pub some-long : {A : Type 0} (xs : List A) → isEmpty xs ≡ false → ltb 0 (length xs) ≡ true
+some-long [] e = no-true (sym e)
+some-long (x ∷ xs) e = lt-ltb 0 (length (x ∷ xs)) (omega arith)

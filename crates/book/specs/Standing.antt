@@ -44,6 +44,11 @@ isOpen Fresh = false
 isOpen Open = true
 isOpen Closed = false
 
+abbrev pub isClosed : Stage → Bool
+isClosed Fresh = false
+isClosed Open = false
+isClosed Closed = true
+
 abbrev pub isEmpty : {A : Type 0} → List A → Bool
 isEmpty [] = true
 isEmpty (x ∷ xs) = false

@@ -1,11 +1,13 @@
 // The book of one levelling line.
 ghost use mathlib.Core.Path.{_≡_};
 ghost use Rattle.book.specs.Calls.{freshBook};
-use adjust::{Answer, Benchmark, Sections};
+use adjust::{Answer, Benchmark, Point, Sections, Summary};
 use station::{Instrument, Order};
 mod closing;
+mod effects;
 mod refusals;
 mod state;
+pub mod calls;
 
 pub enum Stage {
     Fresh,
@@ -48,6 +50,19 @@ pub struct Book {
 pub struct Outcome {
     pub answer: Answer,
     pub book: Book,
+}
+
+// What closing answers: W, L, n, T and the verdict, or the refusal.
+pub enum CloseAnswer {
+    Closed(Summary),
+    NotClosed(u8),
+}
+
+// And the book that it leaves, with the points: the start and one for each section, zeros behind them.
+pub struct CloseOutcome {
+    pub answer: CloseAnswer,
+    pub book: Book,
+    pub points: [Point; 65],
 }
 
 // A book with nothing in it.

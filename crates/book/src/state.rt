@@ -5,7 +5,7 @@ ghost use Prim.Native.Nat.{_≤_};
 ghost use Rattle.numbers.specs.Whole.{anyOf, eqZ, lastOf};
 ghost use Rattle.adjust.specs.declared.Section.{Section};
 ghost use Rattle.adjust.specs.Sections.{sectionsOf};
-ghost use Rattle.book.specs.Standing.{standingOf, isFresh, isOpen, isReturn, runFits, waitingBroken, lineBroken, broken};
+ghost use Rattle.book.specs.Standing.{standingOf, isFresh, isOpen, isClosed, isReturn, runFits, waitingBroken, lineBroken, broken};
 use super::{Book, Line, Run, Stage, Waiting};
 use adjust::Sections;
 use roots::limits::magnitude;
@@ -27,6 +27,16 @@ pub(crate) fn is_open(stage: Stage) -> bool
         Stage::Fresh => false,
         Stage::Open => true,
         Stage::Closed => false,
+    }
+}
+
+pub(crate) fn is_closed(stage: Stage) -> bool
+    ensures { λ r. ⌜ r ≡ isClosed stage ⌝ }
+{
+    match stage {
+        Stage::Fresh => false,
+        Stage::Open => false,
+        Stage::Closed => true,
     }
 }
 

@@ -1,31 +1,35 @@
+-- `close_input` meets its contract: the tests from the last to the first, as the table has them.
+use mathlib.Core.Path.{ap, _∙_}
+use mathlib.Core.Bool.{not, cond}
+use Rattle.numbers.proofs.Machine.{stored-id}
+use Rattle.adjust.specs.Sections.{heightInRange}
+use Rattle.book.specs.Rules.{numberInRange}
 use borrow.Author.Needs.{needs}
 use Rattle.book.proofs.closing.close_input.Statement.{statement}
 use Rattle.book.proofs.closing.close_input.Tie as tie
-use Rattle.book.proofs.closing.close_input.Reads as reads
-use Rattle.book.proofs.closing.close_input.Lts as lts
-use Rattle.adjust.proofs.height_in_range.Reads as height-in-range-reads
-use Rattle.book.proofs.refusals.number_in_range.Reads as number-in-range-reads
-use Rattle.book.proofs.refusals.pick.Reads as pick-reads
 
--- src/closing.rt:49:22
 height-in-range-requires : tie.Need-height-in-range-requires
 height-in-range-requires c κs = search needs
 
--- src/closing.rt:49:9
 pick-requires : tie.Need-pick-requires
 pick-requires c κs = search needs
 
--- src/closing.rt:50:11
 number-in-range-requires : tie.Need-number-in-range-requires
 number-in-range-requires c κs = search needs
 
--- src/closing.rt:50:5
 pick-requires-2 : tie.Need-pick-requires-2
 pick-requires-2 c κs = search needs
 
--- src/closing.rt:46:1
 returns : tie.Need-returns
-returns c = ?
+returns c =
+    let numbers = c .before in
+    let five = numbers .before in
+    let heights = five .before in
+    let s = heights .before in
+    let height = heights .height-in-range .ensures ∙ ap heightInRange (stored-id (s .fits .end)) in
+    let number = numbers .number-in-range .ensures ∙ ap numberInRange (stored-id (s .fits .number)) in
+    let e5 = five .pick .ensures ∙ (λ i. cond (not (height i)) 5 0) in
+    c .pick2 .ensures ∙ (λ i. cond (not (number i)) 4 (e5 i))
 
 pub close-input-spec : {M : Type 1} → statement M
 close-input-spec =

@@ -1,35 +1,61 @@
+-- `close_refusal` meets its contract, by the parts of a refusal.
+use mathlib.Core.Path.{_≡_, refl, sym, ap, _∙_}
+use Rattle.numbers.specs.Tables.{firstOf}
+use Rattle.numbers.proofs.Machine.{stored-id, stored-both}
+use Rattle.numbers.proofs.Tests.{not-false}
+use Rattle.numbers.proofs.Tables.{all-fail}
+use Rattle.adjust.specs.Sections.{heightInRange}
+use Rattle.book.specs.Standing.{standingOf}
+use Rattle.book.specs.Rules.{Call, close-line, inputTests, stateTests}
+use Rattle.book.proofs.Parts.{input-refused, broken-refused, state-refused}
 use borrow.Author.Needs.{needs}
 use Rattle.book.proofs.closing.close_refusal.Statement.{statement}
 use Rattle.book.proofs.closing.close_refusal.Tie as tie
-use Rattle.book.proofs.closing.close_refusal.Reads as reads
-use Rattle.book.proofs.closing.close_refusal.Lts as lts
-use Rattle.book.proofs.closing.close_input.Reads as close-input-reads
-use Rattle.book.proofs.closing.close_state.Reads as close-state-reads
-use Rattle.book.proofs.state.is_broken.Reads as is-broken-reads
 
--- src/closing.rt:92:9
 close-input-requires : tie.Need-close-input-requires
 close-input-requires c κs = search needs
 
--- src/closing.rt:94:9
-returns : tie.Need-returns
-returns c = ?
+abbrev call : tie.Start → Call
+call s = close-line (s .args .number) (s .args .end)
 
--- src/closing.rt:96:8
+number : (c : tie.After-close-input) → c .close-input .result ≡ firstOf (inputTests (call (c .before)))
+number c =
+    let s = c .before in
+    c .close-input .ensures ∙ stored-both (λ n h. firstOf (inputTests (close-line n h))) (s .fits .number) (s .fits .end)
+
+-- the input is not refused
+taken : (c : tie.Else1) → firstOf (inputTests (call (c .before .before))) ≡ 0
+taken c = sym (number (c .before)) ∙ c .if1 .left
+
+returns : tie.Need-returns
+returns c =
+    let s = c .before .before in
+    input-refused (standingOf (s .args .b)) (call s) (c .before .close-input .result) (number (c .before)) (c .if1 .taken)
+
 is-broken-requires : tie.Need-is-broken-requires
 is-broken-requires c κs = search needs
 
--- src/closing.rt:97:9
 returns-2 : tie.Need-returns-2
-returns-2 c = ?
+returns-2 c =
+    let e = c .before .before in
+    let s = e .before .before in
+    broken-refused (standingOf (s .args .b)) (call s) (taken e) (sym (c .before .is-broken .ensures) ∙ c .if2 .taken)
 
--- src/closing.rt:99:5
 close-state-requires : tie.Need-close-state-requires
-close-state-requires c κs = ?
+close-state-requires c κs =
+    let e = c .before .before in
+    let s = e .before .before in (
+      sym (c .before .is-broken .ensures) ∙ c .if2 .left,
+      ap heightInRange (stored-id (s .fits .end)) ∙ not-false (heightInRange (s .args .end)) (all-fail (inputTests (call s)) refl (taken e) .1 .0),
+    )
 
--- src/closing.rt:89:1
 returns-3 : tie.Need-returns-3
-returns-3 c = ?
+returns-3 c =
+    let k = c .before in
+    let e = k .before .before in
+    let s = e .before .before in
+    state-refused (standingOf (s .args .b)) (call s) (c .close-state .result) (taken e) (sym (k .before .is-broken .ensures) ∙ k .if2 .left)
+    (c .close-state .ensures ∙ stored-both (λ n h. firstOf (stateTests (standingOf (s .args .b)) (close-line n h))) (s .fits .number) (s .fits .end))
 
 pub close-refusal-spec : {M : Type 1} → statement M
 close-refusal-spec =

@@ -1,33 +1,36 @@
+-- `closure_within` meets its contract, order by order.
+use mathlib.Core.Path.{sym, ap, _∙_}
+use Rattle.numbers.proofs.Machine.{stored-both}
+use Rattle.roots.specs.Limit.{isWithin}
+use Rattle.station.specs.declared.Order.{Order}
+use Rattle.book.specs.Rules.{closureWithin}
 use borrow.Author.Needs.{needs}
 use Rattle.book.proofs.closing.closure_within.Statement.{statement}
 use Rattle.book.proofs.closing.closure_within.Tie as tie
-use Rattle.book.proofs.closing.closure_within.Reads as reads
-use Rattle.book.proofs.closing.closure_within.Lts as lts
-use Rattle.roots.proofs.limits.within.Reads as within-reads
 
--- src/closing.rt:41:25
 enum-told : tie.Need-enum-told
 enum-told c = search needs
 
--- src/closing.rt:41:25
 within-requires : tie.Need-within-requires
 within-requires c κs = search needs
 
--- src/closing.rt:42:26
 enum-told-2 : tie.Need-enum-told-2
 enum-told-2 c = search needs
 
--- src/closing.rt:42:26
 within-requires-2 : tie.Need-within-requires-2
 within-requires-2 c κs = search needs
 
--- src/closing.rt:37:1
 returns : tie.Need-returns
-returns c = ?
+returns c =
+    let s = c .before .before .before in
+    c .within .ensures ∙ stored-both (λ w l. isWithin 625 w 72 l) (s .fits .w) (s .fits .l)
+    ∙ sym (ap (λ (o : Order). closureWithin o (s .args .w) (s .args .l)) (c .before .enum-told .given .1))
 
--- src/closing.rt:37:1
 returns-2 : tie.Need-returns-2
-returns-2 c = ?
+returns-2 c =
+    let s = c .before .before .before in
+    c .within2 .ensures ∙ stored-both (λ w l. isWithin 25 w 8 l) (s .fits .w) (s .fits .l)
+    ∙ sym (ap (λ (o : Order). closureWithin o (s .args .w) (s .args .l)) (c .before .enum-told2 .given .1))
 
 pub closure-within-spec : {M : Type 1} → statement M
 closure-within-spec =

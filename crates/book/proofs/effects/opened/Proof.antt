@@ -1,0 +1,56 @@
+-- `opened` meets its contract: a line with no section leaves the arrays as they are.
+use mathlib.Core.Path.{_≡_, sym, ap, _∙_}
+use lib.IntN.{pos}
+use Rattle.numbers.proofs.Machine.{stored-id}
+use Rattle.adjust.proofs.Holding.{holding-none}
+use Rattle.book.specs.declared.Stage.the-variants.{Open}
+use Rattle.book.specs.declared.Waiting.the-variants.{Nothing}
+use Rattle.book.specs.Rules.{orderOf, instrumentOf}
+use borrow.Author.Needs.{needs}
+use Rattle.book.proofs.effects.opened.Statement.{statement}
+use Rattle.book.proofs.effects.opened.Tie as tie
+use Rattle.book.proofs.effects.opened.Reads as reads
+use Rattle.book.proofs.effects.opened.Lts as lts
+use Rattle.book.proofs.effects.instrument_of.Reads as instrument-of-reads
+use Rattle.book.proofs.effects.no_run.Reads as no-run-reads
+use Rattle.book.proofs.effects.order_of.Reads as order-of-reads
+
+-- src/effects.rt:69:16
+order-of-requires : tie.Need-order-of-requires
+order-of-requires c κs = search needs
+
+-- src/effects.rt:70:21
+instrument-of-requires : tie.Need-instrument-of-requires
+instrument-of-requires c κs = search needs
+
+-- src/effects.rt:74:18
+no-run-requires : tie.Need-no-run-requires
+no-run-requires c κs = search needs
+
+-- src/effects.rt:60:1
+returns : tie.Need-returns
+returns c =
+    let r = c .before in
+    let n = r .before in
+    let o = n .before in
+    let s = o .before in
+    let t = s .args .b .sections in
+    let order = o .order-of .ensures ∙ ap orderOf (stored-id (s .fits .order)) in
+    let instrument = n .instrument-of .ensures ∙ ap instrumentOf (stored-id (s .fits .instrument)) in
+    λ i.
+    record {
+      line =
+          record {
+            stage = Open;
+            order = order i;
+            instrument = instrument i;
+            start = record { number = stored-id (s .fits .number) i; height = stored-id (s .fits .height) i };
+            end = pos 0;
+            waiting = Nothing;
+            present = r .no-run .ensures i;
+          };
+      sections = sym (holding-none t) i;
+    }
+
+pub opened-spec : {M : Type 1} → statement M
+opened-spec = tie.close (tie.spec order-of-requires instrument-of-requires no-run-requires returns)

@@ -1,0 +1,118 @@
+-- `run_ended` meets its contract, for an outward run and for a return.
+use mathlib.Core.Path.{_≡_, refl, sym, ap, subst, _∙_}
+use mathlib.Core.Bool.{Bool, false, not, cond, _&&_}
+use Prim.Native.Nat.{ℕ, _<_}
+use native.Mathlib.Omega.{arith}
+use lib.Dec.{leb, nleb→lt}
+use lib.ListN.{length}
+use lib.IntN.{ℤ}
+use mir.Syntax.{w64}
+use mir.Val.{SFits}
+use Rattle.numbers.proofs.Tests.{fails}
+use Rattle.numbers.proofs.Tables.{all-fail}
+use Rattle.numbers.proofs.Machine.{stored-id}
+use Rattle.adjust.specs.declared.Section.{Section}
+use Rattle.adjust.specs.Sections.{sectionsOf}
+use Rattle.adjust.proofs.Lists.{from-length}
+use Rattle.book.specs.declared.Waiting.{Waiting}
+use Rattle.book.specs.declared.Waiting.the-variants.{Nothing, Outward}
+use Rattle.book.specs.declared.Book.{Book}
+use Rattle.book.specs.Standing.{Standing, standingOf, bookWith, outwardOrReturn, isReturn, noRun, oneWay, bothWays, twoWay}
+use Rattle.book.specs.Rules.{end-run, stateTests, withRuns, withSection, runEnded}
+use Rattle.book.proofs.Parts.{taken-parts}
+use Rattle.book.proofs.Unbroken.{SmallWaiting, Unbroken, unbroken}
+use borrow.Author.Needs.{needs}
+use Rattle.book.proofs.effects.run_ended.Statement.{statement}
+use Rattle.book.proofs.effects.run_ended.Tie as tie
+use Rattle.book.proofs.effects.run_ended.Reads as reads
+use Rattle.book.proofs.effects.run_ended.Lts as lts
+use Rattle.book.proofs.effects.both_ways.Reads as both-ways-reads
+use Rattle.book.proofs.effects.outward_ended.Reads as outward-ended-reads
+use Rattle.book.proofs.effects.with_section.Reads as with-section-reads
+
+-- src/effects.rt:204:29
+enum-told : tie.Need-enum-told
+enum-told c = search needs
+
+-- src/effects.rt:204:29
+whole : (s : tie.Start) → Unbroken (s .args .b)
+whole s = unbroken (s .args .b) (taken-parts (standingOf (s .args .b)) (end-run (s .args .number)) (s .pre) .1)
+
+-- an outward run that is taken finds room (test 31)
+room : (s : tie.Start) → isReturn (s .args .b .line .waiting) ≡ false → s .args .b .sections .count < 64
+room s e =
+    let b = s .args .b in
+    let f = all-fail (stateTests (standingOf b) (end-run (s .args .number))) refl (taken-parts (standingOf b) (end-run (s .args .number)) (s .pre) .2) in
+    let full = ap (λ (t : Bool). not t && leb 64 (length (sectionsOf (b .sections)))) (sym e) ∙ f .1 .1 .0 in
+    omega (arith, from-length (b .sections) 0 (b .sections .count), nleb→lt 64 (length (sectionsOf (b .sections))) (fails full))
+
+outward-ended-requires : tie.Need-outward-ended-requires
+outward-ended-requires c κs =
+    let s = c .before .before .before .before in
+    (whole s .present, room s (ap isReturn (c .enum-told .given .1)))
+
+-- src/effects.rt:205:26
+enum-known-waiting : tie.Need-enum-known-waiting
+enum-known-waiting c = search needs
+
+-- src/effects.rt:205:59
+-- the run that waits is small, and leaves room for its section
+waits : (w : tie.After-waiting) → SmallWaiting (Outward (w .waiting .given .0 .0) (w .waiting .given .0 .1 .0)) (w .before .before .before .before .args .b .sections .count)
+waits w =
+    let s = w .before .before .before .before in
+    subst (λ (x : Waiting). SmallWaiting x (s .args .b .sections .count)) (w .waiting .given .1) (whole s .waiting)
+
+both-ways-requires : tie.Need-both-ways-requires
+both-ways-requires c κs = let w = c .before in (waits w .0, whole (w .before .before .before .before) .present)
+
+-- src/effects.rt:205:43
+with-section-requires : tie.Need-with-section-requires
+with-section-requires c κs = waits (c .before .before) .1
+
+-- src/effects.rt:196:1
+-- what an outward run leaves
+abbrev outwardLeft : Book → ℤ → Standing
+outwardLeft b number =
+    cond (twoWay (b .line .order)) (record { line = withRuns (b .line) (Outward number (b .line .present)) noRun; sections = sectionsOf (b .sections) })
+    (withSection (standingOf b) (oneWay number (b .line .present)))
+
+-- the effect, by what waits
+ended : (s : tie.Start) (w : Waiting) → s .args .b .line .waiting ≡ w
+    → bookWith (s .args .b) (runEnded (standingOf (s .args .b)) (s .args .number))
+    ≡ bookWith (s .args .b) (outwardOrReturn w (outwardLeft (s .args .b) (s .args .number)) (λ outward run. withSection (standingOf (s .args .b)) (bothWays outward run (s .args .b .line .present))))
+ended s w e =
+    ap (λ (x : Waiting). bookWith (s .args .b)
+    (outwardOrReturn x (outwardLeft (s .args .b) (s .args .number)) (λ outward run. withSection (standingOf (s .args .b)) (bothWays outward run (s .args .b .line .present))))) e
+
+returns : tie.Need-returns
+returns c =
+    let k = c .before in
+    let s = k .before .before .before .before in
+    let b = s .args .b in
+    c .outward-ended .ensures ∙ ap (λ (n : ℤ). bookWith b (outwardLeft b n)) (stored-id (s .fits .number))
+    ∙ sym (ended s Nothing (k .enum-told .given .1))
+
+-- src/effects.rt:196:1
+number-fits : (c : tie.After-known-told) → SFits w64 (c .before .waiting .given .0 .0)
+number-fits c = search needs
+
+returns-2 : tie.Need-returns-2
+returns-2 c =
+    let p = c .before in
+    let w = p .before .before in
+    let s = w .before .before .before .before in
+    let b = s .args .b in
+    c .with-section .ensures ∙ ap (λ (x : Section). bookWith b (withSection (standingOf b) x)) (p .both-ways .ensures ∙ ap (λ (n : ℤ). bothWays n (w .waiting .given .0 .1 .0) (b .line .present)) (stored-id (number-fits (p .before))))
+    ∙ sym (ended s (Outward (w .waiting .given .0 .0) (w .waiting .given .0 .1 .0)) (w .waiting .given .1))
+
+pub run-ended-spec : {M : Type 1} → statement M
+run-ended-spec =
+    tie.close
+    (tie.spec
+    enum-told
+    outward-ended-requires
+    enum-known-waiting
+    both-ways-requires
+    with-section-requires
+    returns
+    returns-2)

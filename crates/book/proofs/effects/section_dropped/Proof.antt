@@ -1,0 +1,33 @@
+-- `section_dropped` meets its contract, by that of `with_line`.
+use mathlib.Core.Path.{_≡_, ap, _∙_}
+use Rattle.adjust.specs.Sections.{sectionsOf}
+use Rattle.book.specs.declared.Run.{Run}
+use Rattle.book.specs.declared.Waiting.the-variants.{Nothing}
+use Rattle.book.specs.Standing.{bookWith}
+use Rattle.book.specs.Rules.{withRuns}
+use borrow.Author.Needs.{needs}
+use Rattle.book.proofs.effects.section_dropped.Statement.{statement}
+use Rattle.book.proofs.effects.section_dropped.Tie as tie
+use Rattle.book.proofs.effects.section_dropped.Reads as reads
+use Rattle.book.proofs.effects.section_dropped.Lts as lts
+use Rattle.book.proofs.effects.no_run.Reads as no-run-reads
+use Rattle.book.proofs.effects.with_line.Reads as with-line-reads
+
+-- src/effects.rt:210:36
+no-run-requires : tie.Need-no-run-requires
+no-run-requires c κs = search needs
+
+-- src/effects.rt:210:5
+with-line-requires : tie.Need-with-line-requires
+with-line-requires c κs = search needs
+
+-- src/effects.rt:206:1
+returns : tie.Need-returns
+returns c =
+    let r = c .before in
+    let s = r .before in
+    c .with-line .ensures
+    ∙ ap (λ (u : Run). bookWith (s .args .b) (record { line = withRuns (s .args .b .line) Nothing u; sections = sectionsOf (s .args .b .sections) })) (r .no-run .ensures)
+
+pub section-dropped-spec : {M : Type 1} → statement M
+section-dropped-spec = tie.close (tie.spec no-run-requires with-line-requires returns)

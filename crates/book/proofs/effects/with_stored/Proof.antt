@@ -1,0 +1,94 @@
+-- `with_stored` meets its contract: one store in each array.
+use mathlib.Core.Path.{_≡_, sym, _∙_}
+use Prim.Native.Nat.{_+_}
+use lib.ListN.{set}
+use mir.Syntax.{w64}
+use mir.Val.{SFits}
+use Rattle.numbers.proofs.Machine.{stored-id}
+use Rattle.adjust.proofs.Holding.{Whole, holding-more}
+use borrow.Author.Needs.{needs}
+use Rattle.book.proofs.effects.with_stored.Statement.{statement}
+use Rattle.book.proofs.effects.with_stored.Tie as tie
+use Rattle.book.proofs.effects.with_stored.Reads as reads
+use Rattle.book.proofs.effects.with_stored.Lts as lts
+
+-- src/effects.rt:162:5
+mul-number : tie.Need-mul-number
+mul-number c = search needs
+
+-- src/effects.rt:162:5
+element-set-from-number : tie.Need-element-set-from-number
+element-set-from-number c = search needs
+
+-- src/effects.rt:163:5
+mul-height : tie.Need-mul-height
+mul-height c = search needs
+
+-- src/effects.rt:163:5
+element-set-from-height : tie.Need-element-set-from-height
+element-set-from-height c = search needs
+
+-- src/effects.rt:164:5
+mul-distance : tie.Need-mul-distance
+mul-distance c = search needs
+
+-- src/effects.rt:164:5
+element-set-from-distance : tie.Need-element-set-from-distance
+element-set-from-distance c = search needs
+
+-- src/effects.rt:165:5
+mul-discrepancy : tie.Need-mul-discrepancy
+mul-discrepancy c = search needs
+
+-- src/effects.rt:165:5
+element-set-from-discrepancy : tie.Need-element-set-from-discrepancy
+element-set-from-discrepancy c = search needs
+
+-- src/effects.rt:166:18
+add-next : tie.Need-add-next
+add-next c = search needs
+
+-- src/effects.rt:152:1
+number-fits : (s : tie.Start) → SFits w64 (s .args .x .number)
+number-fits s = search needs
+
+height-fits : (s : tie.Start) → SFits w64 (s .args .x .height)
+height-fits s = search needs
+
+distance-fits : (s : tie.Start) → SFits w64 (s .args .x .distance)
+distance-fits s = search needs
+
+discrepancy-fits : (s : tie.Start) → SFits w64 (s .args .x .discrepancy)
+discrepancy-fits s = search needs
+
+whole : (s : tie.Start) → Whole (s .args .s)
+whole s = record { numbers = search needs; heights = search needs; distances = search needs; discrepancies = search needs }
+
+returns : tie.Need-returns
+returns c =
+    let s = c .before .before .before .before in
+    let t = s .args .s in
+    (λ i.
+    record {
+      count = t .count + 1;
+      numbers = set (t .numbers) (t .count) (stored-id (number-fits s) i);
+      heights = set (t .heights) (t .count) (stored-id (height-fits s) i);
+      distances = set (t .distances) (t .count) (stored-id (distance-fits s) i);
+      discrepancies = set (t .discrepancies) (t .count) (stored-id (discrepancy-fits s) i);
+    })
+    ∙ sym (holding-more t (s .args .x) (whole s) (s .pre))
+
+pub with-stored-spec : {M : Type 1} → statement M
+with-stored-spec =
+    tie.close
+    (tie.spec
+    mul-number
+    element-set-from-number
+    mul-height
+    element-set-from-height
+    mul-distance
+    element-set-from-distance
+    mul-discrepancy
+    element-set-from-discrepancy
+    add-next
+    returns)

@@ -1,0 +1,70 @@
+-- `with_taken_station` meets its contract: a station that is taken has the figures of its readings, and they are small.
+use mathlib.Core.Path.{_≡_, sym, ap, subst, _∙_}
+use lib.IntN.{ℤ}
+use Rattle.numbers.proofs.Tables.{zero-cond}
+use Rattle.numbers.proofs.Machine.{stored, stored-id, stored-both}
+use Rattle.station.specs.declared.Figures.{Figures}
+use Rattle.station.specs.Bounds.{Small}
+use Rattle.station.specs.Station.{stationOf, figuresOf, noFigures, readingRefusal, figuresIfRead}
+use Rattle.station.proofs.Read.{read, figures-small}
+use Rattle.adjust.specs.Sections.{sectionsOf}
+use Rattle.book.specs.declared.Run.{Run}
+use Rattle.book.specs.Standing.{standingOf, bookWith, withStation}
+use Rattle.book.specs.Rules.{Call, station, withRuns}
+use Rattle.book.proofs.Parts.{taken-parts}
+use Rattle.book.proofs.Unbroken.{Unbroken, unbroken}
+use borrow.Author.Needs.{needs}
+use Rattle.book.proofs.effects.with_taken_station.Statement.{statement}
+use Rattle.book.proofs.effects.with_taken_station.Tie as tie
+use Rattle.book.proofs.effects.with_taken_station.Reads as reads
+use Rattle.book.proofs.effects.with_taken_station.Lts as lts
+use Rattle.book.proofs.effects.with_line.Reads as with-line-reads
+use Rattle.book.proofs.effects.with_station.Reads as with-station-reads
+use Rattle.station.proofs.figures_of.Reads as figures-of-reads
+
+-- src/effects.rt:119:9
+figures-of-requires : tie.Need-figures-of-requires
+figures-of-requires c κs = search needs
+
+-- src/effects.rt:120:9
+abbrev call : tie.Start → Call
+call s = station (s .args .kb) (s .args .kf) (s .args .readings)
+
+whole : (s : tie.Start) → Unbroken (s .args .b)
+whole s = unbroken (s .args .b) (taken-parts (standingOf (s .args .b)) (call s) (s .pre) .1)
+
+not-refused : (s : tie.Start) → readingRefusal (s .args .kb) (s .args .kf) (s .args .readings) ≡ 0
+unfolding readingRefusal
+not-refused s = taken-parts (standingOf (s .args .b)) (call s) (s .pre) .0
+
+-- what the call gave are the figures
+figures-are : (c : tie.After-figures-of)
+    → c .figures-of .result ≡ figuresOf (stationOf (c .before .before .before .args .kb) (c .before .before .before .args .kf) (c .before .before .before .args .readings))
+unfolding figuresIfRead
+figures-are c =
+    let s = c .before .before .before in
+    c .figures-of .ensures ∙ stored-both (λ b f. figuresIfRead b f (s .args .readings)) (s .fits .kb) (s .fits .kf)
+    ∙ zero-cond (readingRefusal (s .args .kb) (s .args .kf) (s .args .readings)) (figuresOf (stationOf (s .args .kb) (s .args .kf) (s .args .readings))) noFigures (not-refused s)
+
+with-station-requires : tie.Need-with-station-requires
+with-station-requires c κs =
+    let s = c .before .before .before in
+    (whole s .present, subst Small (sym (figures-are c)) (figures-small (read (s .args .kb) (s .args .kf) (s .args .readings) (not-refused s))))
+
+-- src/effects.rt:121:5
+with-line-requires : tie.Need-with-line-requires
+with-line-requires c κs = whole (c .before .before .before .before) .few
+
+-- src/effects.rt:112:1
+returns : tie.Need-returns
+returns c =
+    let w = c .before in
+    let f = w .before in
+    let s = f .before .before .before in
+    let b = s .args .b in
+    let u = w .with-station .ensures ∙ (λ i. withStation (b .line .present) (figures-are f i) (stored-id (s .fits .kf) i)) in
+    c .with-line .ensures ∙ ap (λ (r : Run). bookWith b (record { line = withRuns (b .line) (b .line .waiting) r; sections = sectionsOf (b .sections) })) u
+
+pub with-taken-station-spec : {M : Type 1} → statement M
+with-taken-station-spec =
+    tie.close (tie.spec figures-of-requires with-station-requires with-line-requires returns)
