@@ -2,3 +2,4 @@
 pub mod Parts
 pub mod Unbroken
 pub mod Joined
+pub mod Closable
