@@ -11,7 +11,7 @@ use Rattle.adjust.specs.declared.Section.{Section}
 use Rattle.adjust.specs.declared.Sections.{Sections}
 use Rattle.adjust.specs.Sections.{sectionAt, sectionsFrom, sectionsOf, over, holding}
 use Rattle.adjust.proofs.Lists.{from-length}
-use Rattle.adjust.proofs.Over.{over-next}
+use Rattle.adjust.proofs.Over.{over-next, over-again}
 
 -- the arrays have 64 places each, as the type says
 pub record Whole (s : Sections) : Type 0 where
@@ -122,3 +122,18 @@ holding-more s x w h = λ i.
 pub holding-none : (s : Sections) → holding s [] ≡ record { count = 0; numbers = s .numbers; heights = s .heights; distances = s .distances; discrepancies = s .discrepancies }
 unfolding holding
 holding-none s = refl
+
+-- of two lists put in one after the other, the second no shorter, the second stands
+pub holding-again : (s : Sections) (xs ys : List Section) → length xs ≤ length ys → holding (holding s xs) ys ≡ holding s ys
+unfolding holding
+holding-again s xs ys h = λ i.
+    record {
+      count = length ys;
+      numbers = covers (λ (x : Section). x .number) (s .numbers) i;
+      heights = covers (λ (x : Section). x .height) (s .heights) i;
+      distances = covers (λ (x : Section). x .distance) (s .distances) i;
+      discrepancies = covers (λ (x : Section). x .discrepancy) (s .discrepancies) i;
+    }
+  where
+    covers : (f : Section → ℤ) (a : List ℤ) → over (map f ys) (over (map f xs) a) ≡ over (map f ys) a
+    covers f a = over-again (map f xs) (map f ys) a (omega (arith, map-length f xs, map-length f ys))

@@ -5,3 +5,4 @@ pub mod Drops
 pub mod Runs
 pub mod Whole
 pub mod Every
+pub mod Traced

@@ -54,6 +54,7 @@ pub lowest-number : (v : Standing) (c : Call) → ((n : ℤ) → c ≡ end-run n
 lowest-number v c k = first-lowest (λ n. n) (inputTests c ++ stateTests v c) 0 (number-rising v c k)
 
 pub book-lowest : (v : Standing) (c : Call) → Lowest before30 (inputTests c ++ ((20, broken v) ∷ stateTests v c)) (bookRefusal v c)
+unfolding bookRefusal
 book-lowest v c = first-lowest before30 (inputTests c ++ ((20, broken v) ∷ stateTests v c)) 0 (book-rising v c)
 
 pub fails : (v : Standing) (c : Call) → refusal v c ≡ 0 → AllFail (inputTests c ++ stateTests v c)

@@ -1,8 +1,9 @@
--- No book that calls from a fresh one leave meets the test of 20, and a closed line is at least 1 long: by what every taken call keeps.
+-- What every taken call keeps of the standing list. So no book that calls from a fresh one leave meets the test of 20, and a closed line is at least 1 long.
 use mathlib.Core.Path.{_≡_, refl, sym, ap, subst, _∙_}
 use mathlib.Core.Bool.{Bool, true, false, not, cond, _&&_, _||_}
 use mathlib.Core.List.{List, [], _∷_, _++_}
 use Prim.Native.Nat.{ℕ, _%_, _≤_, _<_}
+use native.Mathlib.Nat.{le-refl}
 use native.Mathlib.Omega.{arith}
 use borrow.Author.Tests.{le-leb, lt-leb, leb-false, eqb-false}
 use lib.Dec.{leb, eqb, eqb→eq}
@@ -17,11 +18,12 @@ use Rattle.numbers.proofs.Parts.{ints, parts-add, test-le}
 use Rattle.adjust.specs.declared.Section.{Section}
 use Rattle.adjust.specs.Sections.{legFits, sectionFits, heightInRange}
 use Rattle.adjust.specs.Line.{lineLength}
+use Rattle.book.specs.declared.Stage.{Stage}
 use Rattle.book.specs.declared.Stage.the-variants.{Fresh, Open, Closed}
 use Rattle.book.specs.declared.Run.{Run}
 use Rattle.book.specs.declared.Waiting.{Waiting}
 use Rattle.book.specs.declared.Waiting.the-variants.{Nothing, Outward}
-use Rattle.book.specs.Standing.{Standing, isEmpty, isReturn, outwardOrReturn, noRun, oneWay, bothWays, twoWay, runFits, broken}
+use Rattle.book.specs.Standing.{Standing, isFresh, isOpen, isShut, isEmpty, isReturn, outwardOrReturn, noRun, oneWay, bothWays, twoWay, runFits, waitingBroken, broken}
 use Rattle.book.specs.Rules.{Call, open-line, station, end-run, drop-run, drop-section, close-line, inputTests, stateTests, refusal, bookRefusal, discrepancyWithin, withRuns, withSection, runEnded, taken}
 use Rattle.ledger.specs.Plain as Plain
 use Rattle.ledger.specs.Plain.{Reading, freshReading, after, next, standing}
@@ -40,32 +42,32 @@ fresh-not-closed e = let z : _≡_ {A = ℕ} 0 1 = cc in omega arith
 -- ---- what is kept
 
 -- what waits beside n sections: a run leaves room for the section that it will be
-abbrev Awaits : ℕ → Waiting → Type 0
+abbrev pub Awaits : ℕ → Waiting → Type 0
 Awaits n Nothing = Unit {0}
 Awaits n (Outward number run) = Sized run × (n < 64)
 
 -- a section that does not fit
-abbrev unfit : Section → Bool
+abbrev pub unfit : Section → Bool
 unfit x = not (sectionFits x)
 
-record Kept (v : Standing) : Type 0 where
-  few : length (v .sections) ≤ 64
-  fit : anyOf unfit (v .sections) ≡ false
-  present : Sized (v .line .present)
-  waiting : Awaits (length (v .sections)) (v .line .waiting)
-  start : heightInRange (v .line .start .height) ≡ true
-  end : heightInRange (v .line .end) ≡ true
-  closed : v .line .stage ≡ Closed → 1 ≤ length (v .sections)
+pub record Kept (v : Standing) : Type 0 where
+  pub few : length (v .sections) ≤ 64
+  pub fit : anyOf unfit (v .sections) ≡ false
+  pub present : Sized (v .line .present)
+  pub waiting : Awaits (length (v .sections)) (v .line .waiting)
+  pub start : heightInRange (v .line .start .height) ≡ true
+  pub end : heightInRange (v .line .end) ≡ true
+  pub closed : v .line .stage ≡ Closed → 1 ≤ length (v .sections)
+  pub fresh : v .line .stage ≡ Fresh → v .sections ≡ []
 
 -- so the test of 20 does not hold
 kept-whole : (v : Standing) → Kept v → broken v ≡ false
 unfolding broken
 kept-whole v i =
-    λ j. not (le-leb (length (v .sections)) 64 (i .few) j) || i .fit j || not (run-fits (v .line .present) (i .present) j)
-    || waits (v .line .waiting) (i .waiting) j || not (i .start j) || not (i .end j)
+    λ j. (not (le-leb (length (v .sections)) 64 (i .few) j) || i .fit j)
+    || (not (run-fits (v .line .present) (i .present) j) || waits (v .line .waiting) (i .waiting) j || not (i .start j) || not (i .end j))
   where
-    waits : (w : Waiting) → Awaits (length (v .sections)) w
-        → outwardOrReturn w false (λ number run. not (runFits run) || leb 64 (length (v .sections))) ≡ false
+    waits : (w : Waiting) → Awaits (length (v .sections)) w → waitingBroken w (length (v .sections)) ≡ false
     waits Nothing k = refl
     waits (Outward number run) k = λ j. not (run-fits run (k .0) j) || lt-leb 64 (length (v .sections)) (k .1) j
 
@@ -76,8 +78,9 @@ none-append p [] x e k = λ j. k j || false
 none-append p (y ∷ ys) x e k = λ j. or-l (p y) (anyOf p ys) e j || none-append p ys x (or-r (p y) (anyOf p ys) e) k j
 
 -- a section more, one that fits and for which there is room
-section-kept : (v : Standing) (x : Section) → Kept v → length (v .sections) < 64 → sectionFits x ≡ true → Kept (withSection v x)
-section-kept v x i room e =
+section-kept : (v : Standing) (x : Section) → Kept v → isOpen (v .line .stage) ≡ true → length (v .sections) < 64 → sectionFits x ≡ true
+    → Kept (withSection v x)
+section-kept v x i o room e =
     record {
       few = rw (length-append (v .sections) (x ∷ [])) (omega arith);
       fit = none-append unfit (v .sections) x (i .fit) (ap not e);
@@ -86,15 +89,19 @@ section-kept v x i room e =
       start = i .start;
       end = i .end;
       closed = λ c. rw (length-append (v .sections) (x ∷ [])) (omega arith);
+      fresh = λ c. no-true (sym (ap isOpen c) ∙ o);
     }
 
--- by the tests 29, 31 and 32
+-- by the tests 21, 29, 31 and 32
 run-kept : (v : Standing) (number : ℤ) → Kept v → refusal v (end-run number) ≡ 0 → Kept (runEnded v number)
 run-kept v number i e =
     let from-29 = fails v (end-run number) e .1 .1 in
     let some : 0 < u .count = omega (arith, eqb-false (u .count) 0 (or-l (eqb (u .count) 0) (eqb (u .count % 2) 1) (from-29 .0))) in
     go (v .line .waiting) (twoWay (v .line .order)) some (i .waiting) (from-29 .1 .0) (from-29 .1 .1 .1 .0)
   where
+    running : isOpen (v .line .stage) ≡ true
+    running = not-false (isOpen (v .line .stage)) (or-l (not (isOpen (v .line .stage))) (isShut v) (fails v (end-run number) e .1 .0))
+
     u : Run
     u = v .line .present
 
@@ -115,10 +122,11 @@ run-kept v number i e =
           start = i .start;
           end = i .end;
           closed = i .closed;
+          fresh = i .fresh;
         }
-    go Nothing false some k room d = section-kept v (oneWay number u) i (leb-false 64 n room) (one-way-fits number u (i .present) some)
+    go Nothing false some k room d = section-kept v (oneWay number u) i running (leb-false 64 n room) (one-way-fits number u (i .present) some)
     go (Outward outward run) t some k room d =
-        section-kept v (bothWays outward run u) i (k .1)
+        section-kept v (bothWays outward run u) i running (k .1)
         (both-ways-fits outward run u (k .0) (i .present) some (not-false (discrepancyWithin (bothWays outward run u)) d))
 
 -- ---- a call
@@ -138,6 +146,7 @@ taken-kept v (open-line order instrument number height) i e =
       start = not-false (heightInRange height) (fails v (open-line order instrument number height) e .1 .1 .0);
       end = refl;
       closed = λ c. absurd (open-not-closed c);
+      fresh = λ c. refl;
     }
 taken-kept v (station kb kf readings) i e =
     record {
@@ -148,12 +157,13 @@ taken-kept v (station kb kf readings) i e =
       start = i .start;
       end = i .end;
       closed = i .closed;
+      fresh = i .fresh;
     }
 taken-kept v (end-run number) i e = run-kept v number i e
 taken-kept v drop-run i e =
-    record { few = i .few; fit = i .fit; present = no-run-sized; waiting = i .waiting; start = i .start; end = i .end; closed = i .closed }
+    record { few = i .few; fit = i .fit; present = no-run-sized; waiting = i .waiting; start = i .start; end = i .end; closed = i .closed; fresh = i .fresh }
 taken-kept v drop-section i e =
-    record { few = i .few; fit = i .fit; present = no-run-sized; waiting = tt; start = i .start; end = i .end; closed = i .closed }
+    record { few = i .few; fit = i .fit; present = no-run-sized; waiting = tt; start = i .start; end = i .end; closed = i .closed; fresh = i .fresh }
 -- by the tests 5 and 33
 taken-kept v (close-line number end) i e =
     let from-4 = fails v (close-line number end) e in
@@ -167,11 +177,39 @@ taken-kept v (close-line number end) i e =
       end = not-false (heightInRange end) (from-4 .1 .0);
       closed =
           λ c. not-empty (v .sections) (or-r (not (eqb (v .line .present .count) 0) || isReturn (v .line .waiting)) (isEmpty (v .sections)) (from-33 .0));
+      fresh = λ c. absurd (fresh-not-closed (sym c));
     }
+
+-- ---- no call shortens the list of sections: one that opens a line finds none
+
+is-fresh : (s : Stage) → isFresh s ≡ true → s ≡ Fresh
+is-fresh Fresh e = refl
+is-fresh Open e = no-true e
+is-fresh Closed e = no-true e
+
+run-longer : (v : Standing) (number : ℤ) (w : Waiting) (t : Bool)
+    → length (v .sections)
+    ≤ length (outwardOrReturn w
+    (cond t (record { line = withRuns (v .line) (Outward number (v .line .present)) noRun; sections = v .sections }) (withSection v (oneWay number (v .line .present))))
+    (λ outward run. withSection v (bothWays outward run (v .line .present))) .sections)
+run-longer v number Nothing true = le-refl (length (v .sections))
+run-longer v number Nothing false = rw (length-append (v .sections) (oneWay number (v .line .present) ∷ [])) (omega arith)
+run-longer v number (Outward outward run) t = rw (length-append (v .sections) (bothWays outward run (v .line .present) ∷ [])) (omega arith)
+
+pub no-shorter : (v : Standing) (c : Call) → Kept v → refusal v c ≡ 0 → length (v .sections) ≤ length (taken v c .sections)
+no-shorter v (open-line order instrument number height) i e =
+    let from-3 = fails v (open-line order instrument number height) e in
+    let none = i .fresh (is-fresh (v .line .stage) (not-false (isFresh (v .line .stage)) (from-3 .1 .1 .1 .0))) in
+    rw none (omega arith)
+no-shorter v (station kb kf readings) i e = le-refl (length (v .sections))
+no-shorter v (end-run number) i e = run-longer v number (v .line .waiting) (twoWay (v .line .order))
+no-shorter v drop-run i e = le-refl (length (v .sections))
+no-shorter v drop-section i e = le-refl (length (v .sections))
+no-shorter v (close-line number end) i e = le-refl (length (v .sections))
 
 -- ---- a list of calls
 
-next-kept : (r : Reading) (c : Call) → Kept (standing r) → Kept (standing (next r c))
+pub next-kept : (r : Reading) (c : Call) → Kept (standing r) → Kept (standing (next r c))
 next-kept r c i =
     by-test (eqb (refusal (standing r) c) 0) (λ t. Kept (standing (cond t (Plain.taken r c) r)))
     (λ t. subst Kept (sym (follows r c)) (taken-kept (standing r) c i (eqb→eq (refusal (standing r) c) 0 t))) (λ t. i)
@@ -180,9 +218,9 @@ after-kept : (calls : List Call) (r : Reading) → Kept (standing r) → Kept (s
 after-kept [] r i = i
 after-kept (c ∷ cs) r i = after-kept cs (next r c) (next-kept r c i)
 
-fresh-kept : Kept (standing freshReading)
+pub fresh-kept : Kept (standing freshReading)
 fresh-kept =
-    record { few = omega arith; fit = refl; present = no-run-sized; waiting = tt; start = refl; end = refl; closed = λ c. absurd (fresh-not-closed c) }
+    record { few = omega arith; fit = refl; present = no-run-sized; waiting = tt; start = refl; end = refl; closed = λ c. absurd (fresh-not-closed c); fresh = λ c. refl }
 
 calls-kept : (calls : List Call) → Kept (standing (after freshReading calls))
 calls-kept calls = after-kept calls freshReading fresh-kept
@@ -193,25 +231,10 @@ pub never-broken : (calls : List Call) → broken (standing (after freshReading 
 never-broken calls = kept-whole (standing (after freshReading calls)) (calls-kept calls)
 
 -- and a book gives the number that the rules give
-pub same-refusal : (calls : List Call) (c : Call)
-    → bookRefusal (standing (after freshReading calls)) c ≡ refusal (standing (after freshReading calls)) c
-same-refusal calls c =
-    let v : Standing = standing (after freshReading calls) in
-    ap (λ (b : Bool). firstOf (inputTests c ++ ((20, b) ∷ stateTests v c))) (never-broken calls) ∙ first-skips (inputTests c) (stateTests v c) 20
-
--- so one that holds the counts and sums of the standing list holds them after the next call
-pub book-follows : (calls : List Call) (c : Call)
-    → standing (next (after freshReading calls) c)
-    ≡ cond (eqb (bookRefusal (standing (after freshReading calls)) c) 0) (taken (standing (after freshReading calls)) c) (standing (after freshReading calls))
-book-follows calls c =
-    by-test (eqb (refusal v c) 0) (λ t. standing (cond t (Plain.taken r c) r) ≡ cond t (taken v c) v) (λ t. follows r c) (λ t. refl)
-    ∙ ap (λ (n : ℕ). cond (eqb n 0) (taken v c) v) (sym (same-refusal calls c))
-  where
-    r : Reading
-    r = after freshReading calls
-
-    v : Standing
-    v = standing r
+pub same-refusal : (v : Standing) (c : Call) → Kept v → bookRefusal v c ≡ refusal v c
+unfolding bookRefusal
+same-refusal v c i =
+    ap (λ (b : Bool). firstOf (inputTests c ++ ((20, b) ∷ stateTests v c))) (kept-whole v i) ∙ first-skips (inputTests c) (stateTests v c) 20
 
 -- ---- the length
 

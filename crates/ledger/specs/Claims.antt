@@ -34,8 +34,9 @@ pub record SoundClosing (v : Standing) (end : ℤ) (gave : Closing) : Type 0 whe
   pub last : lastHeight (pos 0) (gave .points) ≡ end
   pub near : Near (frameOf (v .line .start .height) end (v .sections)) (pos 0) (pos 0) (v .sections) (others (gave .points))
 
--- one closing was taken in the list, of the standing list that the calls before it left; it was sound, and no later call changed anything
-pub record ClosedOnce (calls : List Call) : Type 0 where
+-- one closing was taken in the list, of the standing list that the calls before it left; it was sound, and no later call changed anything.
+-- `all` is what the list's closings gave
+pub record ClosedOnce (calls : List Call) (all : List Closing) : Type 0 where
   pub before : List Call
   pub number : ℤ
   pub end : ℤ
@@ -43,13 +44,13 @@ pub record ClosedOnce (calls : List Call) : Type 0 where
   pub split : calls ≡ before ++ (close-line number end ∷ later)
   pub accepted : refusal (after freshReading before) (close-line number end) ≡ 0
   pub gave : Closing
-  pub once : closings freshReading calls ≡ gave ∷ []
+  pub once : all ≡ gave ∷ []
   pub sound : SoundClosing (standing (after freshReading before)) end gave
   pub stays : after freshReading calls ≡ taken (after freshReading before) (close-line number end)
 
 -- whatever the calls, taken or refused: a line that they leave closed was closed once and soundly
 abbrev pub EveryList : Type 0
-EveryList = (calls : List Call) → after freshReading calls .stage ≡ Closed → ClosedOnce calls
+EveryList = (calls : List Call) → after freshReading calls .stage ≡ Closed → ClosedOnce calls (closings freshReading calls)
 
 -- ---- the number given
 

@@ -1,3 +1,4 @@
 pub mod Plain
 pub mod Claims
+pub mod Trace
 pub mod Worked

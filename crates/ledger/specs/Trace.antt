@@ -1,0 +1,68 @@
+-- A book's calls as a caller makes them: from a fresh book, each on the book that the call before it left, and of each no more is known than its function's
+-- contract ensures. `Learnt` is that contract, read from the function itself.
+use mathlib.Core.Path.{_≡_}
+use mathlib.Core.Bool.{false}
+use mathlib.Core.List.{List, [], _∷_, _++_}
+use Prim.Native.Nat.{ℕ}
+use lib.Dec.{eqb}
+use lib.IntN.{ℤ}
+use Rattle.numbers.specs.Whole.{anyOf}
+use Rattle.adjust.specs.Line.{Closing}
+use Rattle.adjust.specs.Call.{numberOf}
+use Rattle.book.specs.declared.Stage.the-variants.{Closed}
+use Rattle.book.specs.declared.Book.{Book}
+use Rattle.book.specs.declared.Outcome.{Outcome}
+use Rattle.book.specs.declared.CloseOutcome.{CloseOutcome}
+use Rattle.book.specs.Standing.{standingOf, bookWith}
+use Rattle.book.specs.Rules.{Call, open-line, station, end-run, drop-run, drop-section, close-line}
+use Rattle.book.specs.Calls.{freshBook, closeNumber, gaveOf}
+use Rattle.book.proofs.fresh.Reads as fresh-reads
+use Rattle.book.proofs.calls.«open».Reads as open-reads
+use Rattle.book.proofs.calls.station.Reads as station-reads
+use Rattle.book.proofs.calls.end_run.Reads as end-run-reads
+use Rattle.book.proofs.calls.drop_run.Reads as drop-run-reads
+use Rattle.book.proofs.calls.drop_section.Reads as drop-section-reads
+use Rattle.book.proofs.calls.close_line.Reads as close-line-reads
+use Rattle.ledger.specs.Plain.{freshReading, after, refusals, closings, standing}
+use Rattle.ledger.specs.Claims.{ClosedOnce}
+
+abbrev pub FreshEnsures : Book → Type 0
+FreshEnsures b = fresh-reads.Learnt tt tt b tt
+
+-- of a call but closing, whose outcome is another
+abbrev pub Ensures : Book → Call → Outcome → Type 0
+Ensures b (open-line order instrument number height) r =
+    open-reads.Learnt tt (b, (order, (instrument, (number, (height, tt))))) r (b, (order, (instrument, (number, (height, tt)))))
+Ensures b (station kb kf readings) r = station-reads.Learnt tt (b, (kb, (kf, (readings, tt)))) r (b, (kb, (kf, (readings, tt))))
+Ensures b (end-run number) r = end-run-reads.Learnt tt (b, (number, tt)) r (b, (number, tt))
+Ensures b drop-run r = drop-run-reads.Learnt tt (b, tt) r (b, tt)
+Ensures b drop-section r = drop-section-reads.Learnt tt (b, tt) r (b, tt)
+Ensures b (close-line number end) r = ⊥
+
+abbrev pub CloseEnsures : Book → ℤ → ℤ → CloseOutcome → Type 0
+CloseEnsures b number end r = close-line-reads.Learnt tt (b, (number, (end, tt))) r (b, (number, (end, tt)))
+
+-- the calls made of a book, the numbers that they answered, what its closings gave and the book that was left
+pub data Trace : Book → List Call → List ℕ → List Closing → Book → Type 0 where
+  done : {b : Book} → Trace b [] [] [] b
+  call : {b e : Book} {c : Call} {cs : List Call} {ns : List ℕ} {gs : List Closing} (r : Outcome) → Ensures b c r → Trace (r .book) cs ns gs e
+      → Trace b (c ∷ cs) (numberOf (r .answer) ∷ ns) gs e
+  close : {b e : Book} {number end : ℤ} {cs : List Call} {ns : List ℕ} {gs : List Closing} (r : CloseOutcome) → CloseEnsures b number end r
+      → Trace (r .book) cs ns gs e → Trace b (close-line number end ∷ cs) (closeNumber (r .answer) ∷ ns) (gaveOf r ++ gs) e
+
+-- ---- the claim about the whole list
+
+pub record Sound (calls : List Call) (ns : List ℕ) (gs : List Closing) (e : Book) : Type 0 where
+  -- the plain reading answers the same numbers, and its closings give the same
+  pub numbers : ns ≡ refusals freshReading calls
+  pub given : gs ≡ closings freshReading calls
+  -- the book holds the standing list's counts and sums, and nothing else
+  pub holds : standingOf e ≡ standing (after freshReading calls)
+  pub book : e ≡ bookWith freshBook (standing (after freshReading calls))
+  -- no call found the book broken
+  pub never-20 : anyOf (λ n. eqb n 20) ns ≡ false
+  -- a line that the calls left closed was closed once and soundly
+  pub closed : e .line .stage ≡ Closed → ClosedOnce calls gs
+
+abbrev pub EveryTrace : Type 0
+EveryTrace = (b e : Book) (calls : List Call) (ns : List ℕ) (gs : List Closing) → FreshEnsures b → Trace b calls ns gs e → Sound calls ns gs e
