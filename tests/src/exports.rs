@@ -1,8 +1,9 @@
-//! The functions of the static library `api`, each under a safe name. Nothing checks these declarations against the source in crates/api.
+//! The functions of the static libraries, each under a safe name. Nothing checks these declarations against the source in crates/.
 
 extern "C" {
     fn level_round_half_even(n: i64, d: i64) -> i64;
     fn level_root_within(a: u16, x: i64, b: u16, l: i64) -> bool;
+    fn level_adjust(legs: *const Leg, count: usize, start: i64, end: i64, heights: *mut i64, places: usize) -> u8;
 }
 
 /// The nearest whole number to n / d, a tie going to the even one.
@@ -15,4 +16,18 @@ pub fn round_half_even(n: i64, d: i64) -> i64 {
 pub fn root_within(a: u16, x: i64, b: u16, l: i64) -> bool {
     // SAFETY: the function takes every four numbers and touches no memory.
     unsafe { level_root_within(a, x, b, l) }
+}
+
+/// A section as it is lent: Q in quarter mm, R in half dm.
+#[repr(C)]
+#[derive(Clone, Copy, Debug)]
+pub struct Leg {
+    pub height: i64,
+    pub distance: i64,
+}
+
+/// The adjustment call: one height a leg into the list; the number of its refusal, 0 where it is taken.
+pub fn adjust(start: i64, end: i64, legs: &[Leg], heights: &mut [i64]) -> u8 {
+    // SAFETY: the function takes slices of every length, each as a pointer and a length; it reads the one and writes the other within their lengths.
+    unsafe { level_adjust(legs.as_ptr(), legs.len(), start, end, heights.as_mut_ptr(), heights.len()) }
 }

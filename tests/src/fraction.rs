@@ -23,3 +23,8 @@ pub fn within(a: i128, x: i128, b: i128, l: i128) -> bool {
     assert!(a >= 1, "a coefficient below 1");
     x * x <= (b * l).div_euclid(a)
 }
+
+/// A figure in 64 bits; every figure of a book has room there.
+pub fn narrow(figure: i128) -> i64 {
+    i64::try_from(figure).expect("a figure of 64 bits")
+}

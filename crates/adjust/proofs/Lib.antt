@@ -1,7 +1,12 @@
--- What callers cite: Lines, the adjustment's theorem in any units; Lists, Sized and Bounded, sections in arrays and the sizes of their figures. Over serves the adjustment call.
+-- What callers cite: Lines, the adjustment's theorem in any units; Refused and Legs, the adjustment call; Lists, Sized and Bounded, sections in arrays and
+-- the sizes of their figures; Walks, steps of proofs by hand. Over and LegArray serve the adjustment call.
 pub mod Lines
 pub mod Lists
 pub mod Bounded
 pub mod Sized
 pub mod Over
 pub mod Holding
+pub mod Refused
+pub mod Legs
+pub mod Walks
+pub mod LegArray

@@ -29,6 +29,10 @@ adjustTests start end ss places =
     ∷ (12, anyOutside true ss)
     ∷ (5, not (heightInRange start && heightInRange end)) ∷ []
 
+-- document 01's order of these numbers: 11, 13, 12, 5
+abbrev pub adjustRank : ℕ → ℕ
+adjustRank n = cond (eqb n 11) 1 (cond (eqb n 13) 2 (cond (eqb n 12) 3 (cond (eqb n 5) 4 5)))
+
 unfoldable pub adjustRefusal : ℤ → ℤ → List Section → ℕ → ℕ
 adjustRefusal start end ss places = firstOf (adjustTests start end ss places)
 

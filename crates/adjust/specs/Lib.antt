@@ -4,3 +4,4 @@ pub mod Claims
 pub mod Frames
 pub mod Bounds
 pub mod Call
+pub mod Legs

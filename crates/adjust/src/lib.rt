@@ -7,6 +7,7 @@ ghost use Rattle.adjust.specs.Bounds.{Between, Fitted};
 
 mod accidental;
 pub mod call;
+pub mod entry;
 mod heights;
 mod sums;
 pub mod table;

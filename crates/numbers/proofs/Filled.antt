@@ -3,7 +3,7 @@ use mathlib.Core.Path.{_≡_, refl, ap}
 use mathlib.Core.List.{List, [], _∷_, _++_}
 use Prim.Native.Nat.{ℕ, zero, suc, _<_, _≤_}
 use native.Mathlib.Omega.{arith}
-use lib.ListN.{length, set, take}
+use lib.ListN.{length, getD, set, take}
 use Rattle.numbers.specs.Whole.{filled}
 
 pub filled-length : {A : Type 0} (a : A) (n : ℕ) (xs : List A) → length (filled a n xs) ≡ n
@@ -15,6 +15,20 @@ pub filled-set : {A : Type 0} (a : A) (n : ℕ) (xs : List A) (x : A) → length
 filled-set a zero xs x h = absurd (omega arith)
 filled-set a (suc n) [] x h = refl
 filled-set a (suc n) (y ∷ ys) x h = ap (λ (l : List _). y ∷ l) (filled-set a n ys x (omega arith))
+
+-- a list copied one element further, whatever d is
+pub filled-next : {A : Type 0} (a : A) (n : ℕ) (xs : List A) (k : ℕ) (d : A) → k < length xs → k < n → set (filled a n (take k xs)) k (getD xs k d) ≡ filled a n (take (suc k) xs)
+filled-next a n [] k d h g = absurd (omega arith)
+filled-next a zero (x ∷ xs) k d h g = absurd (omega arith)
+filled-next a (suc n) (x ∷ xs) zero d h g = refl
+filled-next a (suc n) (x ∷ xs) (suc k) d h g = ap (λ (l : List _). x ∷ l) (filled-next a n xs k d (omega arith) (omega arith))
+
+-- a list as long as the array is the array
+pub filled-full : {A : Type 0} (a : A) (n : ℕ) (xs : List A) → length xs ≡ n → filled a n xs ≡ xs
+filled-full a zero [] h = refl
+filled-full a zero (x ∷ xs) h = absurd (omega arith)
+filled-full a (suc n) [] h = absurd (omega arith)
+filled-full a (suc n) (x ∷ xs) h = ap (λ (l : List _). x ∷ l) (filled-full a n xs (omega arith))
 
 -- the list itself is the array's front
 pub filled-take : {A : Type 0} (a : A) (n : ℕ) (xs : List A) → length xs ≤ n → take (length xs) (filled a n xs) ≡ xs

@@ -13,10 +13,14 @@ use Rattle.numbers.proofs.Tests.{holds, no-true, and-l, and-r, not-true
 
 -- ---- a call that is taken fails every test, and one that meets a test is refused
 
+-- no test has the number n
+abbrev pub without : ℕ → List (ℕ × Bool) → Bool
+without n [] = true
+without n (t ∷ ts) = not (eqb (t .0) n) && without n ts
+
 -- no number is 0
 abbrev pub numbered : List (ℕ × Bool) → Bool
-numbered [] = true
-numbered (t ∷ ts) = not (eqb (t .0) 0) && numbered ts
+numbered ts = without 0 ts
 
 abbrev pub AllFail : List (ℕ × Bool) → Type 0
 AllFail [] = Unit {0}
@@ -54,6 +58,15 @@ first-append (t ∷ ts) us k = go (t .1) (first-append ts us (and-r (not (eqb (t
 pub first-skips : (ts us : List (ℕ × Bool)) (n : ℕ) → firstOf (ts ++ ((n, false) ∷ us)) ≡ firstOf (ts ++ us)
 first-skips [] us n = refl
 first-skips (t ∷ ts) us n = ap (cond (t .1) (t .0)) (first-skips ts us n)
+
+-- a number that no test has is not given
+pub first-without : (n : ℕ) (ts : List (ℕ × Bool)) → without n ts ≡ true → eqb 0 n ≡ false → eqb (firstOf ts) n ≡ false
+first-without n [] k z = z
+first-without n (t ∷ ts) k z = go (t .1) (first-without n ts (and-r (not (eqb (t .0) n)) (without n ts) k) z)
+  where
+    go : (b : Bool) → eqb (firstOf ts) n ≡ false → eqb (cond b (t .0) (firstOf ts)) n ≡ false
+    go true g = not-true (eqb (t .0) n) (and-l (not (eqb (t .0) n)) (without n ts) k)
+    go false g = g
 
 -- ---- the lowest number
 
