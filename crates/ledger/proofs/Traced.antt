@@ -2,32 +2,37 @@
 use mathlib.Core.Path.{_≡_, refl, sym, ap, subst, _∙_}
 use mathlib.Core.Bool.{Bool, true, false, cond, _||_}
 use mathlib.Core.List.{List, [], _∷_, _++_, map}
-use Prim.Native.Nat.{ℕ, suc, _+_, _≤_}
+use Prim.Native.Nat.{ℕ, zero, suc, _+_, _≤_}
 use native.Mathlib.Omega.{arith}
-use lib.Dec.{eqb, eqb→eq}
+use lib.Dec.{eqb, eqb→eq, eqb·suc-zero}
 use lib.ListN.{length, take}
-use lib.IntN.{ℤ}
+use lib.IntN.{ℤ, pos, _*ℤ_}
 use Rattle.numbers.specs.Whole.{filled, anyOf}
 use Rattle.numbers.proofs.Tests.{by-test, holds}
+use Rattle.numbers.proofs.Tables.{without, first-without}
 use Rattle.numbers.proofs.Filled.{filled-take}
 use Rattle.adjust.specs.declared.Section.{Section}
+use Rattle.adjust.specs.declared.Point.{Point}
 use Rattle.adjust.specs.declared.Summary.{Summary}
+use Rattle.adjust.specs.Sections.{sectionsOf}
 use Rattle.adjust.specs.Line.{Frame, pointsAfter, points, frameOf, Closing, closing}
 use Rattle.adjust.specs.Frames.{noPoint}
 use Rattle.adjust.specs.Call.{numberOf, answerOf}
-use Rattle.adjust.proofs.Holding.{sections-holding, holding-again}
-use Rattle.book.specs.declared.Stage.the-variants.{Closed}
+use Rattle.adjust.proofs.Refused.{number-of-answer}
+use Rattle.adjust.proofs.Holding.{sections-holding, holding-again, holding-none}
 use Rattle.book.specs.declared.Book.{Book}
 use Rattle.book.specs.declared.Outcome.{Outcome}
+use Rattle.book.specs.declared.CloseAnswer.the-variants.{Closed, NotClosed}
 use Rattle.book.specs.declared.CloseOutcome.{CloseOutcome}
 use Rattle.book.specs.Standing.{Standing, standingOf, bookWith}
-use Rattle.book.specs.Rules.{Call, open-line, station, end-run, drop-run, drop-section, close-line, bookRefusal}
+use Rattle.book.specs.Rules.{Call, open-line, station, end-run, drop-run, drop-section, close-line, inputTests, stateTests, bookRefusal}
 use Rattle.book.specs.Rules as Rules
-use Rattle.book.specs.Calls.{freshBook, bookAfter, outcome, closingOf, closeNumber, closeAnswerOf, closeOutcome, gaveOf}
+use Rattle.book.specs.Calls.{freshBook, bookAfter, outcome, closingOf, closeNumber, closeValues, closeAnswerOf, closeOutcome, gaveOf}
 use Rattle.ledger.specs.Plain.{Reading, freshReading, next, taken, refusal, after, refusals, given, closings, standing}
+use Rattle.ledger.specs.Claims.{ClosedOnce}
 use Rattle.ledger.specs.Trace.{FreshEnsures, Ensures, CloseEnsures, Trace, done, call, close, Sound, EveryTrace}
 use Rattle.ledger.proofs.Follows.{follows}
-use Rattle.ledger.proofs.Whole.{Kept, next-kept, fresh-kept, kept-whole, same-refusal, no-shorter}
+use Rattle.ledger.proofs.Whole.{Kept, next-kept, fresh-kept, same-refusal, no-shorter}
 use Rattle.ledger.proofs.Every.{every-list}
 
 -- the book that holds what the plain reading's lists sum to
@@ -36,6 +41,9 @@ bookOf r = bookWith freshBook (standing r)
 
 holds-standing : (r : Reading) → standingOf (bookOf r) ≡ standing r
 holds-standing r = λ i. record { line = standing r .line; sections = sections-holding (freshBook .sections) (standing r .sections) i }
+
+fresh-holds : freshBook ≡ bookOf freshReading
+fresh-holds = λ i. record { line = freshBook .line; sections = sym (holding-none (freshBook .sections)) i }
 
 -- ---- one call
 
@@ -64,3 +72,115 @@ points-length : (f : Frame) (q s h : ℤ) (ss : List Section) → length (points
 points-length f q s h [] = refl
 points-length f q s h (x ∷ xs) = ap suc (points-length f _ _ _ xs)
 
+module _ (start end : ℤ) (number : ℤ) (ss : List Section) where
+  -- the points, read back from an array with room for 64 sections
+  back : length ss ≤ 64 → take (length ss + 1) (filled noPoint 65 (points (frameOf start end ss) number ss)) ≡ points (frameOf start end ss) number ss
+  back h =
+      let f = frameOf start end ss in
+      let ps = points f number ss in
+      let n : length ps ≡ length ss + 1 = omega (arith, points-length f (pos 0) (pos 0) (f .prints *ℤ f .start) ss) in
+      ap (λ (m : ℕ). take m (filled noPoint 65 ps)) (sym n) ∙ filled-take noPoint 65 ps (omega (arith, n))
+
+gives : (b : Book) (number end : ℤ) → length (sectionsOf (b .sections)) ≤ 64
+    → gaveOf (closeOutcome b number end) ≡ cond (eqb (bookRefusal (standingOf b) (close-line number end)) 0) (closingOf b end ∷ []) []
+unfolding closeOutcome
+gives b number end h = go (bookRefusal (standingOf b) (close-line number end)) (eqb (bookRefusal (standingOf b) (close-line number end)) 0)
+  where
+    f : List Point → Summary → Closing
+    f ps s = record { summary = s; points = take (s .count + 1) ps }
+
+    gave : Closing
+    gave = closingOf b end
+
+    go : (n : ℕ) (t : Bool)
+        → map (f (filled noPoint 65 (cond t (gave .points) []))) (closeValues (cond t (Closed (gave .summary)) (NotClosed n))) ≡ cond t (gave ∷ []) []
+    go n true = λ i. record { summary = gave .summary; points = back (b .line .start .height) end (b .line .start .number) (sectionsOf (b .sections)) h i } ∷ []
+    go n false = refl
+
+close-number : (n : ℕ) (s : Summary) → closeNumber (closeAnswerOf n s) ≡ n
+close-number zero s = refl
+close-number (suc n) s = rw (eqb·suc-zero n) refl
+
+-- ---- a list of calls
+
+ensured : (b : Book) (c : Call) (o : Outcome) → Ensures b c o → o ≡ outcome b c
+ensured b (open-line order instrument number height) o h = h
+ensured b (station kb kf readings) o h = h
+ensured b (end-run number) o h = h
+ensured b drop-run o h = h
+ensured b drop-section o h = h
+ensured b (close-line number end) o h = absurd h
+
+-- a call that is no closing gives nothing beside
+none-given : (b : Book) (c : Call) (o : Outcome) → Ensures b c o → (r : Reading) → given r c ≡ []
+none-given b (open-line order instrument number height) o h r = refl
+none-given b (station kb kf readings) o h r = refl
+none-given b (end-run number) o h r = refl
+none-given b drop-run o h r = refl
+none-given b drop-section o h r = refl
+none-given b (close-line number end) o h r = absurd h
+
+either : {A : Type 0} (t : Bool) {x y : A} → x ≡ y → cond t x y ≡ y
+either true e = e
+either false e = refl
+
+record Same (r : Reading) (calls : List Call) (ns : List ℕ) (gs : List Closing) (e : Book) : Type 0 where
+  numbers : ns ≡ refusals r calls
+  gave : gs ≡ closings r calls
+  book : e ≡ bookOf (after r calls)
+
+traced : {b e : Book} {cs : List Call} {ns : List ℕ} {gs : List Closing} (r : Reading) → Kept (standing r) → b ≡ bookOf r → Trace b cs ns gs e → Same r cs ns gs e
+unfolding outcome closeOutcome
+traced r k p done = record { numbers = refl; gave = refl; book = p }
+traced r k p (call {b = b} {c = c} {cs = cs} o h t) =
+    let q : o ≡ outcome (bookOf r) c = ensured b c o h ∙ ap (λ (x : Book). outcome x c) p in
+    let rest = traced (next r c) (next-kept r c k) (ap (λ (x : Outcome). x .book) q ∙ left r k c) t in
+    let answered = ap (λ (x : Outcome). numberOf (x .answer)) q ∙ number-of-answer (bookRefusal (standingOf (bookOf r)) c) ∙ number r k c in
+    record {
+      numbers = λ i. answered i ∷ rest .numbers i;
+      gave = rest .gave ∙ ap (λ (l : List Closing). l ++ closings (next r c) cs) (sym (either (eqb (refusal r c) 0) (none-given b c o h r)));
+      book = rest .book;
+    }
+traced r k p (close {number = m} {end = end} {cs = cs} o h t) =
+    let c : Call = close-line m end in
+    let q : o ≡ closeOutcome (bookOf r) m end = h ∙ ap (λ (x : Book). closeOutcome x m end) p in
+    let rest = traced (next r c) (next-kept r c k) (ap (λ (x : CloseOutcome). x .book) q ∙ left r k c) t in
+    let answered =
+        ap (λ (x : CloseOutcome). closeNumber (x .answer)) q
+        ∙ close-number (bookRefusal (standingOf (bookOf r)) c) (closingOf (bookOf r) end .summary) ∙ number r k c in
+    let held = sections-holding (freshBook .sections) (standing r .sections) in
+    let few : length (sectionsOf (bookOf r .sections)) ≤ 64 = subst (λ (ss : List Section). length ss ≤ 64) (sym held) (k .few) in
+    let gave =
+        ap gaveOf q ∙ gives (bookOf r) m end few
+        ∙ (λ i. cond (eqb (number r k c i) 0) (closing (r .order) (r .start) end (held i) ∷ []) []) in
+    record { numbers = λ i. answered i ∷ rest .numbers i; gave = λ i. gave i ++ rest .gave i; book = rest .book }
+
+-- ---- 20 is not given
+
+no-20 : (v : Standing) (c : Call) → without 20 (inputTests c ++ stateTests v c) ≡ true
+no-20 v (open-line order instrument number height) = refl
+no-20 v (station kb kf readings) = refl
+no-20 v (end-run number) = refl
+no-20 v drop-run = refl
+no-20 v drop-section = refl
+no-20 v (close-line number end) = refl
+
+never-20 : (r : Reading) (cs : List Call) → anyOf (λ n. eqb n 20) (refusals r cs) ≡ false
+never-20 r [] = refl
+never-20 r (c ∷ cs) = λ i. first-without 20 (inputTests c ++ stateTests (standing r) c) (no-20 (standing r) c) refl i || never-20 (next r c) cs i
+
+-- ---- the claim
+
+pub every-trace : EveryTrace
+every-trace b e calls ns gs f t =
+    let s = traced freshReading fresh-kept (f ∙ fresh-holds) t in
+    let r : Reading = after freshReading calls in
+    let h : standingOf e ≡ standing r = ap standingOf (s .book) ∙ holds-standing r in
+    record {
+      numbers = s .numbers;
+      given = s .gave;
+      holds = h;
+      book = s .book;
+      never-20 = subst (λ (l : List ℕ). anyOf (λ n. eqb n 20) l ≡ false) (sym (s .numbers)) (never-20 freshReading calls);
+      closed = λ c. subst (ClosedOnce calls) (sym (s .gave)) (every-list calls (sym (ap (λ (v : Standing). v .line .stage) h) ∙ c));
+    }
