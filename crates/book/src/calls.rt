@@ -6,17 +6,34 @@ ghost use mathlib.Core.List.{[]};
 ghost use Rattle.numbers.specs.Whole.{filled};
 ghost use Rattle.adjust.specs.Frames.{noPoint};
 ghost use Rattle.book.specs.Calls.{outcome, closeOutcome, figuresOf};
+use super::Book;
+use super::CloseAnswer;
+use super::CloseOutcome;
+use super::Outcome;
 use super::closing::close_refusal;
-use super::effects::{closed, opened, run_dropped, run_ended, section_dropped, with_taken_station};
-use super::refusals::{drop_refusal, end_refusal, open_refusal, station_refusal};
+use super::effects::closed;
+use super::effects::opened;
+use super::effects::run_dropped;
+use super::effects::run_ended;
+use super::effects::section_dropped;
+use super::effects::with_taken_station;
+use super::refusals::drop_refusal;
+use super::refusals::end_refusal;
+use super::refusals::open_refusal;
+use super::refusals::station_refusal;
 use super::state::is_closed;
-use super::{Book, CloseAnswer, CloseOutcome, Outcome};
-use adjust::{Adjusted, Answer, Point};
+use adjust::Adjusted;
+use adjust::Answer;
+use adjust::Point;
 
 fn answer_of(code: u8) -> Answer
     ensures { λ r. ⌜ r ≡ answerOf code ⌝ }
 {
-    if code == 0 { Answer::Taken } else { Answer::Refused(code) }
+    if code == 0 {
+        Answer::Taken
+    } else {
+        Answer::Refused(code)
+    }
 }
 
 // Open the line: order 3 or 4, instrument 3 for DS3 or 1 for DS1 and DS05, the start's number and its height in mm.
@@ -26,10 +43,16 @@ pub fn open(b: Book, order: i64, instrument: i64, number: i64, height: i64) -> O
     let code = open_refusal(b, order, instrument, number, height);
     let answer = answer_of(code);
     if code != 0 {
-        return Outcome { answer: answer, book: b };
+        return Outcome {
+            answer: answer,
+            book: b,
+        };
     }
     let next = opened(b, order, instrument, number, height);
-    Outcome { answer: answer, book: next }
+    Outcome {
+        answer: answer,
+        book: next,
+    }
 }
 
 // A station: the constants and the readings, back and fore.
@@ -39,10 +62,16 @@ pub fn station(b: Book, kb: i64, kf: i64, readings: [[i64; 4]; 2]) -> Outcome
     let code = station_refusal(b, kb, kf, readings);
     let answer = answer_of(code);
     if code != 0 {
-        return Outcome { answer: answer, book: b };
+        return Outcome {
+            answer: answer,
+            book: b,
+        };
     }
     let next = with_taken_station(b, kb, kf, readings);
-    Outcome { answer: answer, book: next }
+    Outcome {
+        answer: answer,
+        book: next,
+    }
 }
 
 // End the present run on a benchmark.
@@ -52,10 +81,16 @@ pub fn end_run(b: Book, number: i64) -> Outcome
     let code = end_refusal(b, number);
     let answer = answer_of(code);
     if code != 0 {
-        return Outcome { answer: answer, book: b };
+        return Outcome {
+            answer: answer,
+            book: b,
+        };
     }
     let next = run_ended(b, number);
-    Outcome { answer: answer, book: next }
+    Outcome {
+        answer: answer,
+        book: next,
+    }
 }
 
 // Empty the present run.
@@ -65,10 +100,16 @@ pub fn drop_run(b: Book) -> Outcome
     let code = drop_refusal(b);
     let answer = answer_of(code);
     if code != 0 {
-        return Outcome { answer: answer, book: b };
+        return Outcome {
+            answer: answer,
+            book: b,
+        };
     }
     let next = run_dropped(b);
-    Outcome { answer: answer, book: next }
+    Outcome {
+        answer: answer,
+        book: next,
+    }
 }
 
 // Empty the present run and what waits for its return.
@@ -78,10 +119,16 @@ pub fn drop_section(b: Book) -> Outcome
     let code = drop_refusal(b);
     let answer = answer_of(code);
     if code != 0 {
-        return Outcome { answer: answer, book: b };
+        return Outcome {
+            answer: answer,
+            book: b,
+        };
     }
     let next = section_dropped(b);
-    Outcome { answer: answer, book: next }
+    Outcome {
+        answer: answer,
+        book: next,
+    }
 }
 
 fn no_points() -> [Point; 65]
@@ -103,7 +150,11 @@ pub fn close_line(b: Book, number: i64, end: i64) -> CloseOutcome
     let code = close_refusal(b, number, end);
     if code != 0 {
         let none = no_points();
-        return CloseOutcome { answer: CloseAnswer::NotClosed(code), book: b, points: none };
+        return CloseOutcome {
+            answer: CloseAnswer::NotClosed(code),
+            book: b,
+            points: none,
+        };
     }
     let line = b.line;
     let order = line.order;
@@ -113,7 +164,11 @@ pub fn close_line(b: Book, number: i64, end: i64) -> CloseOutcome
     let summary = figures.summary;
     let points = figures.points;
     let next = closed(b, end);
-    CloseOutcome { answer: CloseAnswer::Closed(summary), book: next, points: points }
+    CloseOutcome {
+        answer: CloseAnswer::Closed(summary),
+        book: next,
+        points: points,
+    }
 }
 
 // The figures of a closed book once more; zeros for another.

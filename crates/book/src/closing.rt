@@ -6,9 +6,14 @@ ghost use Rattle.adjust.specs.Sections.{sectionsOf, heightInRange};
 ghost use Rattle.adjust.specs.Frames.{figuresFit};
 ghost use Rattle.book.specs.Standing.{standingOf, isShut, broken};
 ghost use Rattle.book.specs.Rules.{close-line, lengthLimit, closureWithin, lineTests, inputTests, stateTests, bookRefusal};
-use super::refusals::{is_shut, number_in_range, pick};
-use super::state::{began_at, is_broken, is_open, is_return};
 use super::Book;
+use super::refusals::is_shut;
+use super::refusals::number_in_range;
+use super::refusals::pick;
+use super::state::began_at;
+use super::state::is_broken;
+use super::state::is_open;
+use super::state::is_return;
 use roots::limits::within;
 use station::Order;
 
@@ -17,20 +22,8 @@ fn length_limit(order: Order, shut: bool) -> i64
     ensures { λ r. ⌜ r ≡ lengthLimit order shut ⌝ }
 {
     match order {
-        Order::Third => {
-            if shut {
-                4000000
-            } else {
-                3000000
-            }
-        }
-        Order::Fourth => {
-            if shut {
-                2000000
-            } else {
-                1600000
-            }
-        }
+        Order::Third => { if shut { 4000000 } else { 3000000 } }
+        Order::Fourth => { if shut { 2000000 } else { 1600000 } }
     }
 }
 

@@ -9,9 +9,17 @@ ghost use Rattle.book.specs.Standing.{standingOf, bookWith, noRun, withS
 ghost use Rattle.book.specs.Rules.{open-line, station, end-run, drop-run, drop-section, orderOf, instrumentOf, withRuns, withSection, closedAt, bookRefusal, taken};
 ghost use Rattle.book.specs.Bounds.{SmallRun};
 ghost use Rattle.station.specs.Bounds.{Small};
-use super::{Book, Line, Run, Stage, Waiting};
-use adjust::{Benchmark, Section, Sections};
-use station::{Figures, Instrument, Order};
+use super::Book;
+use super::Line;
+use super::Run;
+use super::Stage;
+use super::Waiting;
+use adjust::Benchmark;
+use adjust::Section;
+use adjust::Sections;
+use station::Figures;
+use station::Instrument;
+use station::Order;
 
 fn no_run() -> Run
     ensures { λ r. ⌜ r ≡ noRun ⌝ }
@@ -55,7 +63,11 @@ fn order_of(n: i64) -> Order
 fn instrument_of(n: i64) -> Instrument
     ensures { λ r. ⌜ r ≡ instrumentOf n ⌝ }
 {
-    if n == 3 { Instrument::Ds3 } else { Instrument::Ds1 }
+    if n == 3 {
+        Instrument::Ds3
+    } else {
+        Instrument::Ds1
+    }
 }
 
 pub(crate) fn opened(b: Book, order: i64, instrument: i64, number: i64, height: i64) -> Book

@@ -1,13 +1,19 @@
 // The book of one levelling line.
 ghost use mathlib.Core.Path.{_≡_};
 ghost use Rattle.book.specs.Calls.{freshBook};
-use adjust::{Answer, Benchmark, Point, Sections, Summary};
-use station::{Instrument, Order};
+use adjust::Answer;
+use adjust::Benchmark;
+use adjust::Point;
+use adjust::Sections;
+use adjust::Summary;
+use station::Instrument;
+use station::Order;
+
+pub mod calls;
 mod closing;
 mod effects;
 mod refusals;
 mod state;
-pub mod calls;
 
 pub enum Stage {
     Fresh,

@@ -8,8 +8,16 @@ ghost use Rattle.station.specs.Station.{readingRefusal};
 ghost use Rattle.book.specs.Standing.{standingOf, broken, isShut, outwardOrReturn, bothWays};
 ghost use Rattle.book.specs.Bounds.{SmallRuns};
 ghost use Rattle.book.specs.Rules.{open-line, station, end-run, drop-run, numberInRange, numberAllowed, discrepancyWithin, outOfTurn, inputTests, stateTests, bookRefusal};
-use super::state::{began_at, is_broken, is_fresh, is_open, is_return, on_line};
-use super::{Book, Line, Run, Waiting};
+use super::Book;
+use super::Line;
+use super::Run;
+use super::Waiting;
+use super::state::began_at;
+use super::state::is_broken;
+use super::state::is_fresh;
+use super::state::is_open;
+use super::state::is_return;
+use super::state::on_line;
 use roots::limits::within;
 
 // code where t holds, rest otherwise.
@@ -91,7 +99,14 @@ fn station_state(b: Book, kb: i64, kf: i64, readings: [[i64; 4]; 2]) -> u8
     let stage = line.stage;
     let order = line.order;
     let instrument = line.instrument;
-    let limits = station::limit_refusal(order, instrument, line.present.difference, kb, kf, readings);
+    let limits = station::limit_refusal(
+        order,
+        instrument,
+        line.present.difference,
+        kb,
+        kf,
+        readings,
+    );
     let turn = pick(out_of_turn(line, kb), 23, limits);
     let full = pick(200 <= line.present.count, 22, turn);
     pick(!is_open(stage) | is_shut(b), 21, full)
@@ -147,7 +162,12 @@ fn too_far(waiting: Waiting, present: Run) -> bool
 {
     match waiting {
         Waiting::Nothing => false,
-        Waiting::Outward(_, run) => !within(625, run.height + present.height, 18, run.sights + present.sights),
+        Waiting::Outward(_, run) => !within(
+            625,
+            run.height + present.height,
+            18,
+            run.sights + present.sights,
+        ),
     }
 }
 

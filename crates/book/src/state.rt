@@ -6,7 +6,11 @@ ghost use Rattle.numbers.specs.Whole.{anyOf, eqZ, lastOf};
 ghost use Rattle.adjust.specs.declared.Section.{Section};
 ghost use Rattle.adjust.specs.Sections.{sectionsOf};
 ghost use Rattle.book.specs.Standing.{standingOf, isFresh, isOpen, isClosed, isReturn, runFits, waitingBroken, lineBroken, broken};
-use super::{Book, Line, Run, Stage, Waiting};
+use super::Book;
+use super::Line;
+use super::Run;
+use super::Stage;
+use super::Waiting;
 use adjust::Sections;
 use roots::limits::magnitude;
 

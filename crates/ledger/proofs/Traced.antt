@@ -146,13 +146,13 @@ traced r k p (close {number = m} {end = end} {cs = cs} o h t) =
     let q : o ≡ closeOutcome (bookOf r) m end = h ∙ ap (λ (x : Book). closeOutcome x m end) p in
     let rest = traced (next r c) (next-kept r c k) (ap (λ (x : CloseOutcome). x .book) q ∙ left r k c) t in
     let answered =
-        ap (λ (x : CloseOutcome). closeNumber (x .answer)) q
-        ∙ close-number (bookRefusal (standingOf (bookOf r)) c) (closingOf (bookOf r) end .summary) ∙ number r k c in
+    ap (λ (x : CloseOutcome). closeNumber (x .answer)) q
+    ∙ close-number (bookRefusal (standingOf (bookOf r)) c) (closingOf (bookOf r) end .summary) ∙ number r k c in
     let held = sections-holding (freshBook .sections) (standing r .sections) in
     let few : length (sectionsOf (bookOf r .sections)) ≤ 64 = subst (λ (ss : List Section). length ss ≤ 64) (sym held) (k .few) in
     let gave =
-        ap gaveOf q ∙ gives (bookOf r) m end few
-        ∙ (λ i. cond (eqb (number r k c i) 0) (closing (r .order) (r .start) end (held i) ∷ []) []) in
+    ap gaveOf q ∙ gives (bookOf r) m end few
+    ∙ (λ i. cond (eqb (number r k c i) 0) (closing (r .order) (r .start) end (held i) ∷ []) []) in
     record { numbers = λ i. answered i ∷ rest .numbers i; gave = λ i. gave i ++ rest .gave i; book = rest .book }
 
 -- ---- 20 is not given

@@ -4,14 +4,10 @@ use Rattle.numbers.proofs.Tables.{zero-cond, nonzero-cond}
 use Rattle.adjust.specs.declared.Answer.the-variants.{Taken, Refused}
 use Rattle.book.proofs.calls.answer_of.Statement.{statement}
 use Rattle.book.proofs.calls.answer_of.Tie as tie
-use Rattle.book.proofs.calls.answer_of.Reads as reads
-use Rattle.book.proofs.calls.answer_of.Lts as lts
 
--- src/calls.rt:11:1
 returns : tie.Need-returns
 returns c = sym (zero-cond (c .before .args .code) Taken (Refused (c .before .args .code)) (c .if1 .taken))
 
--- src/calls.rt:11:1
 returns-2 : tie.Need-returns-2
 returns-2 c = sym (nonzero-cond (c .before .args .code) Taken (Refused (c .before .args .code)) (c .if1 .left))
 

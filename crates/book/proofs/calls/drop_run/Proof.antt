@@ -8,21 +8,13 @@ use Rattle.book.proofs.Joined.{joined-refused, joined-taken}
 use borrow.Author.Needs.{needs}
 use Rattle.book.proofs.calls.drop_run.Statement.{statement}
 use Rattle.book.proofs.calls.drop_run.Tie as tie
-use Rattle.book.proofs.calls.drop_run.Reads as reads
-use Rattle.book.proofs.calls.drop_run.Lts as lts
-use Rattle.book.proofs.calls.answer_of.Reads as answer-of-reads
-use Rattle.book.proofs.effects.run_dropped.Reads as run-dropped-reads
-use Rattle.book.proofs.refusals.drop_refusal.Reads as drop-refusal-reads
 
--- src/calls.rt:60:9
 drop-refusal-requires : tie.Need-drop-refusal-requires
 drop-refusal-requires c κs = search needs
 
--- src/calls.rt:61:9
 answer-of-requires : tie.Need-answer-of-requires
 answer-of-requires c κs = search needs
 
--- src/calls.rt:63:9
 number : (c : tie.After-drop-refusal) → c .drop-refusal .result ≡ bookRefusal (standingOf (c .before .args .b)) drop-run
 number c = c .drop-refusal .ensures
 
@@ -31,14 +23,12 @@ returns c =
     let a = c .before in
     joined-refused (a .before .before .args .b) drop-run (number (a .before)) (a .answer-of .ensures) (c .if1 .taken)
 
--- src/calls.rt:65:9
 run-dropped-requires : tie.Need-run-dropped-requires
 run-dropped-requires c κs =
     let r = c .before .before in
     let b = r .before .args .b in
     unbroken b (taken-parts (standingOf b) drop-run (sym (number r) ∙ c .if1 .left) .1) .few
 
--- src/calls.rt:57:1
 returns-2 : tie.Need-returns-2
 returns-2 c =
     let e = c .before in

@@ -9,21 +9,13 @@ use Rattle.book.proofs.Joined.{joined-refused, joined-taken}
 use borrow.Author.Needs.{needs}
 use Rattle.book.proofs.calls.drop_section.Statement.{statement}
 use Rattle.book.proofs.calls.drop_section.Tie as tie
-use Rattle.book.proofs.calls.drop_section.Reads as reads
-use Rattle.book.proofs.calls.drop_section.Lts as lts
-use Rattle.book.proofs.calls.answer_of.Reads as answer-of-reads
-use Rattle.book.proofs.effects.section_dropped.Reads as section-dropped-reads
-use Rattle.book.proofs.refusals.drop_refusal.Reads as drop-refusal-reads
 
--- src/calls.rt:73:9
 drop-refusal-requires : tie.Need-drop-refusal-requires
 drop-refusal-requires c κs = search needs
 
--- src/calls.rt:74:9
 answer-of-requires : tie.Need-answer-of-requires
 answer-of-requires c κs = search needs
 
--- src/calls.rt:76:9
 -- the two calls have the same tests
 same-tests : (b : Book) → bookRefusal (standingOf b) drop-run ≡ bookRefusal (standingOf b) drop-section
 unfolding bookRefusal
@@ -37,14 +29,12 @@ returns c =
     let a = c .before in
     joined-refused (a .before .before .args .b) drop-section (number (a .before)) (a .answer-of .ensures) (c .if1 .taken)
 
--- src/calls.rt:78:9
 section-dropped-requires : tie.Need-section-dropped-requires
 section-dropped-requires c κs =
     let r = c .before .before in
     let b = r .before .args .b in
     unbroken b (taken-parts (standingOf b) drop-section (sym (number r) ∙ c .if1 .left) .1) .few
 
--- src/calls.rt:70:1
 returns-2 : tie.Need-returns-2
 returns-2 c =
     let e = c .before in

@@ -8,21 +8,13 @@ use Rattle.book.proofs.Joined.{joined-refused, joined-taken}
 use borrow.Author.Needs.{needs}
 use Rattle.book.proofs.calls.end_run.Statement.{statement}
 use Rattle.book.proofs.calls.end_run.Tie as tie
-use Rattle.book.proofs.calls.end_run.Reads as reads
-use Rattle.book.proofs.calls.end_run.Lts as lts
-use Rattle.book.proofs.calls.answer_of.Reads as answer-of-reads
-use Rattle.book.proofs.effects.run_ended.Reads as run-ended-reads
-use Rattle.book.proofs.refusals.end_refusal.Reads as end-refusal-reads
 
--- src/calls.rt:47:9
 end-refusal-requires : tie.Need-end-refusal-requires
 end-refusal-requires c κs = search needs
 
--- src/calls.rt:48:9
 answer-of-requires : tie.Need-answer-of-requires
 answer-of-requires c κs = search needs
 
--- src/calls.rt:50:9
 number : (c : tie.After-end-refusal) → c .end-refusal .result ≡ bookRefusal (standingOf (c .before .args .b)) (end-run (c .before .args .number))
 number c =
     let s = c .before in
@@ -34,11 +26,9 @@ returns c =
     let s = a .before .before in
     joined-refused (s .args .b) (end-run (s .args .number)) (number (a .before)) (a .answer-of .ensures) (c .if1 .taken)
 
--- src/calls.rt:52:9
 run-ended-requires : tie.Need-run-ended-requires
 run-ended-requires c κs = search needs
 
--- src/calls.rt:44:1
 returns-2 : tie.Need-returns-2
 returns-2 c =
     let e = c .before in

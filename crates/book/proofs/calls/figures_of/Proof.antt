@@ -13,21 +13,13 @@ use Rattle.book.specs.Calls.{figuresOf}
 use borrow.Author.Needs.{needs}
 use Rattle.book.proofs.calls.figures_of.Statement.{statement}
 use Rattle.book.proofs.calls.figures_of.Tie as tie
-use Rattle.book.proofs.calls.figures_of.Reads as reads
-use Rattle.book.proofs.calls.figures_of.Lts as lts
-use Rattle.adjust.proofs.adjusted_line.Reads as adjusted-line-reads
-use Rattle.adjust.proofs.no_line.Reads as no-line-reads
-use Rattle.book.proofs.state.is_closed.Reads as is-closed-reads
 
--- src/calls.rt:128:8
 is-closed-requires : tie.Need-is-closed-requires
 is-closed-requires c κs = search needs
 
--- src/calls.rt:129:9
 adjusted-line-requires : tie.Need-adjusted-line-requires
 adjusted-line-requires c κs = search needs
 
--- src/calls.rt:129:9
 end-fits : (s : tie.Start) → SFits w64 (s .args .b .line .end)
 end-fits s = search needs
 
@@ -45,11 +37,9 @@ returns c =
     c .adjusted-line .ensures ∙ ap (λ (z : ℤ). adjustedIfFit (b .line .order) (b .line .start) z (sectionsOf (b .sections))) (stored-id (end-fits s))
     ∙ chosen b true (sym (k .is-closed .ensures) ∙ t .if1 .taken)
 
--- src/calls.rt:131:5
 no-line-requires : tie.Need-no-line-requires
 no-line-requires c κs = search needs
 
--- src/calls.rt:120:1
 returns-2 : tie.Need-returns-2
 returns-2 c =
     let e = c .before in

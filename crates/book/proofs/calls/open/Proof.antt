@@ -7,21 +7,13 @@ use Rattle.book.proofs.Joined.{joined-refused, joined-taken}
 use borrow.Author.Needs.{needs}
 use Rattle.book.proofs.calls.open.Statement.{statement}
 use Rattle.book.proofs.calls.open.Tie as tie
-use Rattle.book.proofs.calls.open.Reads as reads
-use Rattle.book.proofs.calls.open.Lts as lts
-use Rattle.book.proofs.calls.answer_of.Reads as answer-of-reads
-use Rattle.book.proofs.effects.opened.Reads as opened-reads
-use Rattle.book.proofs.refusals.open_refusal.Reads as open-refusal-reads
 
--- src/calls.rt:21:9
 open-refusal-requires : tie.Need-open-refusal-requires
 open-refusal-requires c κs = search needs
 
--- src/calls.rt:22:9
 answer-of-requires : tie.Need-answer-of-requires
 answer-of-requires c κs = search needs
 
--- src/calls.rt:24:9
 abbrev call : tie.Start → Call
 call s = open-line (s .args .order) (s .args .instrument) (s .args .number) (s .args .height)
 
@@ -37,11 +29,9 @@ returns c =
     let s = a .before .before in
     joined-refused (s .args .b) (call s) (number (a .before)) (a .answer-of .ensures) (c .if1 .taken)
 
--- src/calls.rt:26:9
 opened-requires : tie.Need-opened-requires
 opened-requires c κs = search needs
 
--- src/calls.rt:18:1
 returns-2 : tie.Need-returns-2
 returns-2 c =
     let e = c .before in

@@ -7,21 +7,13 @@ use Rattle.book.proofs.Joined.{joined-refused, joined-taken}
 use borrow.Author.Needs.{needs}
 use Rattle.book.proofs.calls.station.Statement.{statement}
 use Rattle.book.proofs.calls.station.Tie as tie
-use Rattle.book.proofs.calls.station.Reads as reads
-use Rattle.book.proofs.calls.station.Lts as lts
-use Rattle.book.proofs.calls.answer_of.Reads as answer-of-reads
-use Rattle.book.proofs.effects.with_taken_station.Reads as with-taken-station-reads
-use Rattle.book.proofs.refusals.station_refusal.Reads as station-refusal-reads
 
--- src/calls.rt:34:9
 station-refusal-requires : tie.Need-station-refusal-requires
 station-refusal-requires c κs = search needs
 
--- src/calls.rt:35:9
 answer-of-requires : tie.Need-answer-of-requires
 answer-of-requires c κs = search needs
 
--- src/calls.rt:37:9
 abbrev call : tie.Start → Call
 call s = station (s .args .kb) (s .args .kf) (s .args .readings)
 
@@ -36,11 +28,9 @@ returns c =
     let s = a .before .before in
     joined-refused (s .args .b) (call s) (number (a .before)) (a .answer-of .ensures) (c .if1 .taken)
 
--- src/calls.rt:39:9
 with-taken-station-requires : tie.Need-with-taken-station-requires
 with-taken-station-requires c κs = search needs
 
--- src/calls.rt:31:1
 returns-2 : tie.Need-returns-2
 returns-2 c =
     let e = c .before in

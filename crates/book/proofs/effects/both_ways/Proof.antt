@@ -4,10 +4,7 @@ use Rattle.numbers.proofs.Machine.{stored, stored-id}
 use Rattle.numbers.proofs.Chain.{Value, known, add, sub, fits, kept}
 use Rattle.book.proofs.effects.both_ways.Statement.{statement}
 use Rattle.book.proofs.effects.both_ways.Tie as tie
-use Rattle.book.proofs.effects.both_ways.Reads as reads
-use Rattle.book.proofs.effects.both_ways.Lts as lts
 
--- src/effects.rt:144:17
 height : (s : tie.Start) → Value (stored (s .args .out .height) -ℤ stored (s .args .back .height)) (s .args .out .height -ℤ s .args .back .height) 50000000
 height s = sub (known (s .args .out .height) (s .pre .0 .height) tt) (known (s .args .back .height) (s .pre .1 .height) tt)
 
@@ -20,15 +17,12 @@ discrepancy s = add (known (s .args .out .height) (s .pre .0 .height) tt) (known
 sub-t4 : tie.Need-sub-t4
 sub-t4 c = fits (height (c .before .before .before .before)) tt
 
--- src/effects.rt:145:19
 add-t5 : tie.Need-add-t5
 add-t5 c = fits (sights (c .before .before .before .before .before .before .before .before)) tt
 
--- src/effects.rt:146:22
 add-t6 : tie.Need-add-t6
 add-t6 c = fits (discrepancy (c .before .before .before .before .before .before .before .before .before .before .before .before)) tt
 
--- src/effects.rt:138:1
 returns : tie.Need-returns
 returns c =
     let s = c .before .before .before .before .before .before .before .before .before .before .before .before in

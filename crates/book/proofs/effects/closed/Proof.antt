@@ -6,10 +6,7 @@ use Rattle.adjust.proofs.Holding.{Whole, holding-own}
 use Rattle.book.specs.Rules.{closedAt}
 use Rattle.book.proofs.effects.closed.Statement.{statement}
 use Rattle.book.proofs.effects.closed.Tie as tie
-use Rattle.book.proofs.effects.closed.Reads as reads
-use Rattle.book.proofs.effects.closed.Lts as lts
 
--- src/effects.rt:229:1
 whole : (s : tie.Start) → Whole (s .args .b .sections)
 whole s = record { numbers = search needs; heights = search needs; distances = search needs; discrepancies = search needs }
 

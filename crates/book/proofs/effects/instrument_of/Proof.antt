@@ -8,16 +8,12 @@ use Rattle.numbers.proofs.Equal.{eq-as}
 use Rattle.station.specs.declared.Instrument.the-variants.{Ds3, Ds1}
 use Rattle.book.proofs.effects.instrument_of.Statement.{statement}
 use Rattle.book.proofs.effects.instrument_of.Tie as tie
-use Rattle.book.proofs.effects.instrument_of.Reads as reads
-use Rattle.book.proofs.effects.instrument_of.Lts as lts
 
--- src/effects.rt:54:1
 returns : tie.Need-returns
 returns c =
     let s = c .before in
     sym (ap (λ (t : Bool). cond t Ds3 Ds1) (sym (eq-as (s .fits .n) (sfits-lit {z = pos 3} tt)) ∙ eq-eqb _ _ (c .if1 .taken)))
 
--- src/effects.rt:54:1
 returns-2 : tie.Need-returns-2
 returns-2 c =
     let s = c .before in

@@ -4,10 +4,7 @@ use Rattle.numbers.proofs.Machine.{stored, stored-id}
 use Rattle.numbers.proofs.Chain.{Value, known, literal, mul, fits, kept}
 use Rattle.book.proofs.effects.one_way.Statement.{statement}
 use Rattle.book.proofs.effects.one_way.Tie as tie
-use Rattle.book.proofs.effects.one_way.Reads as reads
-use Rattle.book.proofs.effects.one_way.Lts as lts
 
--- src/effects.rt:132:17
 height : (s : tie.Start) → Value (pos 2 *ℤ stored (s .args .run .height)) (pos 2 *ℤ s .args .run .height) 50000000
 height s = mul (literal (pos 2)) (known (s .args .run .height) (s .pre .height) tt)
 
@@ -17,11 +14,9 @@ sights s = mul (literal (pos 2)) (known (s .args .run .sights) (s .pre .sights) 
 mul-t3 : tie.Need-mul-t3
 mul-t3 c = fits (height (c .before .before)) tt
 
--- src/effects.rt:133:19
 mul-t4 : tie.Need-mul-t4
 mul-t4 c = fits (sights (c .before .before .before .before)) tt
 
--- src/effects.rt:126:1
 returns : tie.Need-returns
 returns c =
     let s = c .before .before .before .before in

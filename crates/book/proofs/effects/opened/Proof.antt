@@ -9,25 +9,16 @@ use Rattle.book.specs.Rules.{orderOf, instrumentOf}
 use borrow.Author.Needs.{needs}
 use Rattle.book.proofs.effects.opened.Statement.{statement}
 use Rattle.book.proofs.effects.opened.Tie as tie
-use Rattle.book.proofs.effects.opened.Reads as reads
-use Rattle.book.proofs.effects.opened.Lts as lts
-use Rattle.book.proofs.effects.instrument_of.Reads as instrument-of-reads
-use Rattle.book.proofs.effects.no_run.Reads as no-run-reads
-use Rattle.book.proofs.effects.order_of.Reads as order-of-reads
 
--- src/effects.rt:69:16
 order-of-requires : tie.Need-order-of-requires
 order-of-requires c κs = search needs
 
--- src/effects.rt:70:21
 instrument-of-requires : tie.Need-instrument-of-requires
 instrument-of-requires c κs = search needs
 
--- src/effects.rt:74:18
 no-run-requires : tie.Need-no-run-requires
 no-run-requires c κs = search needs
 
--- src/effects.rt:60:1
 returns : tie.Need-returns
 returns c =
     let r = c .before in

@@ -12,38 +12,25 @@ use Rattle.book.specs.Rules.{withRuns, withSection}
 use borrow.Author.Needs.{needs}
 use Rattle.book.proofs.effects.outward_ended.Statement.{statement}
 use Rattle.book.proofs.effects.outward_ended.Tie as tie
-use Rattle.book.proofs.effects.outward_ended.Reads as reads
-use Rattle.book.proofs.effects.outward_ended.Lts as lts
-use Rattle.book.proofs.effects.no_run.Reads as no-run-reads
-use Rattle.book.proofs.effects.one_way.Reads as one-way-reads
-use Rattle.book.proofs.effects.with_line.Reads as with-line-reads
-use Rattle.book.proofs.effects.with_section.Reads as with-section-reads
 
--- src/effects.rt:191:38
 enum-told : tie.Need-enum-told
 enum-told c = search needs
 
--- src/effects.rt:191:73
 no-run-requires : tie.Need-no-run-requires
 no-run-requires c κs = search needs
 
--- src/effects.rt:191:25
 with-line-requires : tie.Need-with-line-requires
 with-line-requires c κs = search needs
 
--- src/effects.rt:192:42
 enum-told-2 : tie.Need-enum-told-2
 enum-told-2 c = search needs
 
--- src/effects.rt:192:42
 one-way-requires : tie.Need-one-way-requires
 one-way-requires c κs = search needs
 
--- src/effects.rt:192:26
 with-section-requires : tie.Need-with-section-requires
 with-section-requires c κs = search needs
 
--- src/effects.rt:183:1
 -- what is left, by the order
 abbrev left : tie.Start → Order → Standing
 left s o =
@@ -60,7 +47,6 @@ returns c =
     ∙ (λ i. bookWith b (record { line = withRuns (b .line) (Outward (stored-id (s .fits .number) i) (b .line .present)) (r .no-run .ensures i); sections = sectionsOf (b .sections) }))
     ∙ sym (ap (λ (o : Order). bookWith b (left s o)) (k .enum-told .given .1))
 
--- src/effects.rt:183:1
 returns-2 : tie.Need-returns-2
 returns-2 c =
     let w = c .before in

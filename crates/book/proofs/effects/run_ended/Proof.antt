@@ -24,17 +24,10 @@ use Rattle.book.proofs.Unbroken.{SmallWaiting, Unbroken, unbroken}
 use borrow.Author.Needs.{needs}
 use Rattle.book.proofs.effects.run_ended.Statement.{statement}
 use Rattle.book.proofs.effects.run_ended.Tie as tie
-use Rattle.book.proofs.effects.run_ended.Reads as reads
-use Rattle.book.proofs.effects.run_ended.Lts as lts
-use Rattle.book.proofs.effects.both_ways.Reads as both-ways-reads
-use Rattle.book.proofs.effects.outward_ended.Reads as outward-ended-reads
-use Rattle.book.proofs.effects.with_section.Reads as with-section-reads
 
--- src/effects.rt:204:29
 enum-told : tie.Need-enum-told
 enum-told c = search needs
 
--- src/effects.rt:204:29
 whole : (s : tie.Start) → Unbroken (s .args .b)
 whole s = unbroken (s .args .b) (taken-parts (standingOf (s .args .b)) (end-run (s .args .number)) (s .pre) .1)
 
@@ -51,11 +44,9 @@ outward-ended-requires c κs =
     let s = c .before .before .before .before in
     (whole s .present, room s (ap isReturn (c .enum-told .given .1)))
 
--- src/effects.rt:205:26
 enum-known-waiting : tie.Need-enum-known-waiting
 enum-known-waiting c = search needs
 
--- src/effects.rt:205:59
 -- the run that waits is small, and leaves room for its section
 waits : (w : tie.After-waiting) → SmallWaiting (Outward (w .waiting .given .0 .0) (w .waiting .given .0 .1 .0)) (w .before .before .before .before .args .b .sections .count)
 waits w =
@@ -65,11 +56,9 @@ waits w =
 both-ways-requires : tie.Need-both-ways-requires
 both-ways-requires c κs = let w = c .before in (waits w .0, whole (w .before .before .before .before) .present)
 
--- src/effects.rt:205:43
 with-section-requires : tie.Need-with-section-requires
 with-section-requires c κs = waits (c .before .before) .1
 
--- src/effects.rt:196:1
 -- what an outward run leaves
 abbrev outwardLeft : Book → ℤ → Standing
 outwardLeft b number =
@@ -92,7 +81,6 @@ returns c =
     c .outward-ended .ensures ∙ ap (λ (n : ℤ). bookWith b (outwardLeft b n)) (stored-id (s .fits .number))
     ∙ sym (ended s Nothing (k .enum-told .given .1))
 
--- src/effects.rt:196:1
 number-fits : (c : tie.After-known-told) → SFits w64 (c .before .waiting .given .0 .0)
 number-fits c = search needs
 

@@ -8,20 +8,13 @@ use Rattle.book.specs.Rules.{withRuns}
 use borrow.Author.Needs.{needs}
 use Rattle.book.proofs.effects.section_dropped.Statement.{statement}
 use Rattle.book.proofs.effects.section_dropped.Tie as tie
-use Rattle.book.proofs.effects.section_dropped.Reads as reads
-use Rattle.book.proofs.effects.section_dropped.Lts as lts
-use Rattle.book.proofs.effects.no_run.Reads as no-run-reads
-use Rattle.book.proofs.effects.with_line.Reads as with-line-reads
 
--- src/effects.rt:210:36
 no-run-requires : tie.Need-no-run-requires
 no-run-requires c κs = search needs
 
--- src/effects.rt:210:5
 with-line-requires : tie.Need-with-line-requires
 with-line-requires c κs = search needs
 
--- src/effects.rt:206:1
 returns : tie.Need-returns
 returns c =
     let r = c .before in

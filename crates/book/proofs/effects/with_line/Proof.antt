@@ -4,15 +4,10 @@ use Rattle.adjust.proofs.Holding.{Whole, holding-own}
 use borrow.Author.Needs.{needs}
 use Rattle.book.proofs.effects.with_line.Statement.{statement}
 use Rattle.book.proofs.effects.with_line.Tie as tie
-use Rattle.book.proofs.effects.with_line.Reads as reads
-use Rattle.book.proofs.effects.with_line.Lts as lts
-use Rattle.book.proofs.effects.with_runs.Reads as with-runs-reads
 
--- src/effects.rt:107:15
 with-runs-requires : tie.Need-with-runs-requires
 with-runs-requires c κs = search needs
 
--- src/effects.rt:100:1
 whole : (s : tie.Start) → Whole (s .args .b .sections)
 whole s = record { numbers = search needs; heights = search needs; distances = search needs; discrepancies = search needs }
 

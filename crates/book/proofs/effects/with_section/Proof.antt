@@ -5,25 +5,16 @@ use Rattle.book.specs.Rules.{withRuns}
 use borrow.Author.Needs.{needs}
 use Rattle.book.proofs.effects.with_section.Statement.{statement}
 use Rattle.book.proofs.effects.with_section.Tie as tie
-use Rattle.book.proofs.effects.with_section.Reads as reads
-use Rattle.book.proofs.effects.with_section.Lts as lts
-use Rattle.book.proofs.effects.no_run.Reads as no-run-reads
-use Rattle.book.proofs.effects.with_runs.Reads as with-runs-reads
-use Rattle.book.proofs.effects.with_stored.Reads as with-stored-reads
 
--- src/effects.rt:177:49
 no-run-requires : tie.Need-no-run-requires
 no-run-requires c κs = search needs
 
--- src/effects.rt:177:15
 with-runs-requires : tie.Need-with-runs-requires
 with-runs-requires c κs = search needs
 
--- src/effects.rt:178:19
 with-stored-requires : tie.Need-with-stored-requires
 with-stored-requires c κs = search needs
 
--- src/effects.rt:170:1
 returns : tie.Need-returns
 returns c =
     let w = c .before in

@@ -8,14 +8,10 @@ use Rattle.book.specs.declared.Run.{Run}
 use borrow.Author.Needs.{needs}
 use Rattle.book.proofs.effects.with_station.Statement.{statement}
 use Rattle.book.proofs.effects.with_station.Tie as tie
-use Rattle.book.proofs.effects.with_station.Reads as reads
-use Rattle.book.proofs.effects.with_station.Lts as lts
 
--- src/effects.rt:91:16
 add-t4 : tie.Need-add-t4
 add-t4 c = search needs
 
--- src/effects.rt:92:17
 module _ (s : tie.Start) where
   abbrev u : Run
   u = s .args .u
@@ -38,19 +34,15 @@ module _ (s : tie.Start) where
 add-t5 : tie.Need-add-t5
 add-t5 c = fits (height (c .before .before .before .before .before)) tt
 
--- src/effects.rt:93:29
 add-t6 : tie.Need-add-t6
 add-t6 c = fits (both (c .before .before .before .before .before .before .before)) tt
 
--- src/effects.rt:93:17
 add-t7 : tie.Need-add-t7
 add-t7 c = fits (sights (c .before .before .before .before .before .before .before .before .before)) tt
 
--- src/effects.rt:94:21
 add-t8 : tie.Need-add-t8
 add-t8 c = fits (difference (c .before .before .before .before .before .before .before .before .before .before .before .before .before)) tt
 
--- src/effects.rt:86:1
 returns : tie.Need-returns
 returns c =
     let s = c .before .before .before .before .before .before .before .before .before .before .before .before .before in

@@ -9,46 +9,34 @@ use Rattle.adjust.proofs.Holding.{Whole, holding-more}
 use borrow.Author.Needs.{needs}
 use Rattle.book.proofs.effects.with_stored.Statement.{statement}
 use Rattle.book.proofs.effects.with_stored.Tie as tie
-use Rattle.book.proofs.effects.with_stored.Reads as reads
-use Rattle.book.proofs.effects.with_stored.Lts as lts
 
--- src/effects.rt:162:5
 mul-number : tie.Need-mul-number
 mul-number c = search needs
 
--- src/effects.rt:162:5
 element-set-from-number : tie.Need-element-set-from-number
 element-set-from-number c = search needs
 
--- src/effects.rt:163:5
 mul-height : tie.Need-mul-height
 mul-height c = search needs
 
--- src/effects.rt:163:5
 element-set-from-height : tie.Need-element-set-from-height
 element-set-from-height c = search needs
 
--- src/effects.rt:164:5
 mul-distance : tie.Need-mul-distance
 mul-distance c = search needs
 
--- src/effects.rt:164:5
 element-set-from-distance : tie.Need-element-set-from-distance
 element-set-from-distance c = search needs
 
--- src/effects.rt:165:5
 mul-discrepancy : tie.Need-mul-discrepancy
 mul-discrepancy c = search needs
 
--- src/effects.rt:165:5
 element-set-from-discrepancy : tie.Need-element-set-from-discrepancy
 element-set-from-discrepancy c = search needs
 
--- src/effects.rt:166:18
 add-next : tie.Need-add-next
 add-next c = search needs
 
--- src/effects.rt:152:1
 number-fits : (s : tie.Start) → SFits w64 (s .args .x .number)
 number-fits s = search needs
 

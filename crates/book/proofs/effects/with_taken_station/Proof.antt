@@ -16,17 +16,10 @@ use Rattle.book.proofs.Unbroken.{Unbroken, unbroken}
 use borrow.Author.Needs.{needs}
 use Rattle.book.proofs.effects.with_taken_station.Statement.{statement}
 use Rattle.book.proofs.effects.with_taken_station.Tie as tie
-use Rattle.book.proofs.effects.with_taken_station.Reads as reads
-use Rattle.book.proofs.effects.with_taken_station.Lts as lts
-use Rattle.book.proofs.effects.with_line.Reads as with-line-reads
-use Rattle.book.proofs.effects.with_station.Reads as with-station-reads
-use Rattle.station.proofs.figures_of.Reads as figures-of-reads
 
--- src/effects.rt:119:9
 figures-of-requires : tie.Need-figures-of-requires
 figures-of-requires c κs = search needs
 
--- src/effects.rt:120:9
 abbrev call : tie.Start → Call
 call s = station (s .args .kb) (s .args .kf) (s .args .readings)
 
@@ -51,11 +44,9 @@ with-station-requires c κs =
     let s = c .before .before .before in
     (whole s .present, subst Small (sym (figures-are c)) (figures-small (read (s .args .kb) (s .args .kf) (s .args .readings) (not-refused s))))
 
--- src/effects.rt:121:5
 with-line-requires : tie.Need-with-line-requires
 with-line-requires c κs = whole (c .before .before .before .before) .few
 
--- src/effects.rt:112:1
 returns : tie.Need-returns
 returns c =
     let w = c .before in

@@ -7,29 +7,19 @@ use Rattle.book.proofs.Parts.{broken-refused, state-refused}
 use borrow.Author.Needs.{needs}
 use Rattle.book.proofs.refusals.drop_refusal.Statement.{statement}
 use Rattle.book.proofs.refusals.drop_refusal.Tie as tie
-use Rattle.book.proofs.refusals.drop_refusal.Reads as reads
-use Rattle.book.proofs.refusals.drop_refusal.Lts as lts
-use Rattle.book.proofs.refusals.pick.Reads as pick-reads
-use Rattle.book.proofs.state.is_broken.Reads as is-broken-reads
-use Rattle.book.proofs.state.is_open.Reads as is-open-reads
 
--- src/refusals.rt:118:8
 is-broken-requires : tie.Need-is-broken-requires
 is-broken-requires c κs = search needs
 
--- src/refusals.rt:119:9
 returns : tie.Need-returns
 returns c = let s = c .before .before in broken-refused (standingOf (s .args .b)) drop-run refl (sym (c .before .is-broken .ensures) ∙ c .if1 .taken)
 
--- src/refusals.rt:123:11
 is-open-requires : tie.Need-is-open-requires
 is-open-requires c κs = search needs
 
--- src/refusals.rt:123:5
 pick-requires : tie.Need-pick-requires
 pick-requires c κs = search needs
 
--- src/refusals.rt:115:1
 returns-2 : tie.Need-returns-2
 returns-2 c =
     let e = c .before .before .before in

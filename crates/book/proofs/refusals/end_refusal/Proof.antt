@@ -12,17 +12,10 @@ use Rattle.book.proofs.Parts.{input-refused, broken-refused, state-refu
 use borrow.Author.Needs.{needs}
 use Rattle.book.proofs.refusals.end_refusal.Statement.{statement}
 use Rattle.book.proofs.refusals.end_refusal.Tie as tie
-use Rattle.book.proofs.refusals.end_refusal.Reads as reads
-use Rattle.book.proofs.refusals.end_refusal.Lts as lts
-use Rattle.book.proofs.refusals.end_state.Reads as end-state-reads
-use Rattle.book.proofs.refusals.number_in_range.Reads as number-in-range-reads
-use Rattle.book.proofs.state.is_broken.Reads as is-broken-reads
 
--- src/refusals.rt:174:9
 number-in-range-requires : tie.Need-number-in-range-requires
 number-in-range-requires c κs = search needs
 
--- src/refusals.rt:175:9
 -- the input's number, by whether the benchmark's is in range
 input : (c : tie.After-number-in-range) (t : Bool) → not (c .number-in-range .result) ≡ t → firstOf (inputTests (end-run (c .before .args .number))) ≡ cond t 4 0
 input c t e =
@@ -33,22 +26,18 @@ returns c =
     let s = c .before .before in
     input-refused (standingOf (s .args .b)) (end-run (s .args .number)) 4 (sym (input (c .before) true (c .if1 .taken))) (λ e. absurd (omega arith))
 
--- src/refusals.rt:177:8
 is-broken-requires : tie.Need-is-broken-requires
 is-broken-requires c κs = search needs
 
--- src/refusals.rt:178:9
 returns-2 : tie.Need-returns-2
 returns-2 c =
     let e = c .before .before in
     let s = e .before .before in
     broken-refused (standingOf (s .args .b)) (end-run (s .args .number)) (input (e .before) false (e .if1 .left)) (sym (c .before .is-broken .ensures) ∙ c .if2 .taken)
 
--- src/refusals.rt:180:5
 end-state-requires : tie.Need-end-state-requires
 end-state-requires c κs = sym (c .before .is-broken .ensures) ∙ c .if2 .left
 
--- src/refusals.rt:171:1
 returns-3 : tie.Need-returns-3
 returns-3 c =
     let k = c .before in

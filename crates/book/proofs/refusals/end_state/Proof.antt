@@ -12,59 +12,40 @@ use Rattle.book.proofs.Unbroken.{Unbroken, unbroken, small-runs}
 use borrow.Author.Needs.{needs}
 use Rattle.book.proofs.refusals.end_state.Statement.{statement}
 use Rattle.book.proofs.refusals.end_state.Tie as tie
-use Rattle.book.proofs.refusals.end_state.Reads as reads
-use Rattle.book.proofs.refusals.end_state.Lts as lts
-use Rattle.book.proofs.refusals.is_shut.Reads as is-shut-reads
-use Rattle.book.proofs.refusals.number_allowed.Reads as number-allowed-reads
-use Rattle.book.proofs.refusals.pick.Reads as pick-reads
-use Rattle.book.proofs.refusals.too_far.Reads as too-far-reads
-use Rattle.book.proofs.state.is_open.Reads as is-open-reads
-use Rattle.book.proofs.state.is_return.Reads as is-return-reads
 
--- src/refusals.rt:164:20
 whole : (s : tie.Start) → Unbroken (s .args .b)
 whole s = unbroken (s .args .b) (s .pre)
 
 too-far-requires : tie.Need-too-far-requires
 too-far-requires c κs = let s = c .before .before .before in small-runs (s .args .b) (whole s)
 
--- src/refusals.rt:164:9
 pick-requires : tie.Need-pick-requires
 pick-requires c κs = search needs
 
--- src/refusals.rt:165:23
 number-allowed-requires : tie.Need-number-allowed-requires
 number-allowed-requires c κs = whole (c .before .before .before .before .before) .few
 
--- src/refusals.rt:165:9
 pick-requires-2 : tie.Need-pick-requires-2
 pick-requires-2 c κs = search needs
 
--- src/refusals.rt:166:22
 is-return-requires : tie.Need-is-return-requires
 is-return-requires c κs = search needs
 
--- src/refusals.rt:166:9
 pick-requires-3 : tie.Need-pick-requires-3
 pick-requires-3 c κs = search needs
 
--- src/refusals.rt:167:9
 pick-requires-4 : tie.Need-pick-requires-4
 pick-requires-4 c κs = search needs
 
--- src/refusals.rt:168:11
 is-open-requires : tie.Need-is-open-requires
 is-open-requires c κs = search needs
 
--- src/refusals.rt:168:28
 is-shut-requires : tie.Need-is-shut-requires
 is-shut-requires c κs = whole (c .before .before .before .before .before .before .before .before .before .before .before .before) .few
 
--- src/refusals.rt:168:5
 pick-requires-5 : tie.Need-pick-requires-5
 pick-requires-5 c κs = search needs
 
--- src/refusals.rt:154:1
 returns : tie.Need-returns
 returns c =
     let shut = c .before in

@@ -8,15 +8,10 @@ use Rattle.book.specs.Standing.{standingOf, onLine}
 use borrow.Author.Needs.{needs}
 use Rattle.book.proofs.refusals.is_shut.Statement.{statement}
 use Rattle.book.proofs.refusals.is_shut.Tie as tie
-use Rattle.book.proofs.refusals.is_shut.Reads as reads
-use Rattle.book.proofs.refusals.is_shut.Lts as lts
-use Rattle.book.proofs.state.on_line.Reads as on-line-reads
 
--- src/refusals.rt:61:5
 on-line-requires : tie.Need-on-line-requires
 on-line-requires c κs = search needs
 
--- src/refusals.rt:56:1
 number-fits : (s : tie.Start) → SFits w64 (s .args .b .line .start .number)
 number-fits s = search needs
 

@@ -16,21 +16,13 @@ use Rattle.book.proofs.Unbroken.{empty-count}
 use borrow.Author.Needs.{needs}
 use Rattle.book.proofs.refusals.number_allowed.Statement.{statement}
 use Rattle.book.proofs.refusals.number_allowed.Tie as tie
-use Rattle.book.proofs.refusals.number_allowed.Reads as reads
-use Rattle.book.proofs.refusals.number_allowed.Lts as lts
-use Rattle.book.proofs.state.began_at.Reads as began-at-reads
-use Rattle.book.proofs.state.is_return.Reads as is-return-reads
-use Rattle.book.proofs.state.on_line.Reads as on-line-reads
 
--- src/refusals.rt:136:8
 is-return-requires : tie.Need-is-return-requires
 is-return-requires c κs = search needs
 
--- src/refusals.rt:137:13
 began-at-requires : tie.Need-began-at-requires
 began-at-requires c κs = search needs
 
--- src/refusals.rt:138:9
 start-fits : (s : tie.Start) → SFits w64 (s .args .b .line .start .number)
 start-fits s = search needs
 
@@ -50,11 +42,9 @@ returns c =
     let e = c .began-at .ensures ∙ ap (λ (n : ℤ). lastOf n (map (λ (x : Section). x .number) (sectionsOf (s .args .b .sections)))) (stored-id (start-fits s)) in
     eq-as (s .fits .number) f ∙ ap (eqZ (s .args .number)) e ∙ sym (allowed s true (sym (r .is-return .ensures) ∙ c .before .if1 .taken))
 
--- src/refusals.rt:140:6
 on-line-requires : tie.Need-on-line-requires
 on-line-requires c κs = search needs
 
--- src/refusals.rt:128:1
 returns-2 : tie.Need-returns-2
 returns-2 c =
     let l = c .before in

@@ -10,33 +10,22 @@ use Rattle.book.specs.Rules.{numberInRange}
 use borrow.Author.Needs.{needs}
 use Rattle.book.proofs.refusals.open_input.Statement.{statement}
 use Rattle.book.proofs.refusals.open_input.Tie as tie
-use Rattle.book.proofs.refusals.open_input.Reads as reads
-use Rattle.book.proofs.refusals.open_input.Lts as lts
-use Rattle.adjust.proofs.height_in_range.Reads as height-in-range-reads
-use Rattle.book.proofs.refusals.number_in_range.Reads as number-in-range-reads
-use Rattle.book.proofs.refusals.pick.Reads as pick-reads
 
--- src/refusals.rt:35:22
 height-in-range-requires : tie.Need-height-in-range-requires
 height-in-range-requires c κs = search needs
 
--- src/refusals.rt:35:9
 pick-requires : tie.Need-pick-requires
 pick-requires c κs = search needs
 
--- src/refusals.rt:36:22
 number-in-range-requires : tie.Need-number-in-range-requires
 number-in-range-requires c κs = search needs
 
--- src/refusals.rt:36:9
 pick-requires-2 : tie.Need-pick-requires-2
 pick-requires-2 c κs = search needs
 
--- src/refusals.rt:37:5
 pick-requires-3 : tie.Need-pick-requires-3
 pick-requires-3 c κs = search needs
 
--- src/refusals.rt:30:1
 returns : tie.Need-returns
 returns c =
     let four = c .before in

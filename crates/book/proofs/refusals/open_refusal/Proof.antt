@@ -11,18 +11,10 @@ use Rattle.book.proofs.Parts.{input-refused, broken-refused, state-refu
 use borrow.Author.Needs.{needs}
 use Rattle.book.proofs.refusals.open_refusal.Statement.{statement}
 use Rattle.book.proofs.refusals.open_refusal.Tie as tie
-use Rattle.book.proofs.refusals.open_refusal.Reads as reads
-use Rattle.book.proofs.refusals.open_refusal.Lts as lts
-use Rattle.book.proofs.refusals.open_input.Reads as open-input-reads
-use Rattle.book.proofs.refusals.pick.Reads as pick-reads
-use Rattle.book.proofs.state.is_broken.Reads as is-broken-reads
-use Rattle.book.proofs.state.is_fresh.Reads as is-fresh-reads
 
--- src/refusals.rt:43:9
 open-input-requires : tie.Need-open-input-requires
 open-input-requires c κs = search needs
 
--- src/refusals.rt:45:9
 abbrev call : tie.Start → Call
 call s = open-line (s .args .order) (s .args .instrument) (s .args .number) (s .args .height)
 
@@ -37,26 +29,21 @@ returns c =
     let s = c .before .before in
     input-refused (standingOf (s .args .b)) (call s) (c .before .open-input .result) (number (c .before)) (c .if1 .taken)
 
--- src/refusals.rt:47:8
 is-broken-requires : tie.Need-is-broken-requires
 is-broken-requires c κs = search needs
 
--- src/refusals.rt:48:9
 returns-2 : tie.Need-returns-2
 returns-2 c =
     let e = c .before .before in
     let s = e .before .before in
     broken-refused (standingOf (s .args .b)) (call s) (sym (number (e .before)) ∙ e .if1 .left) (sym (c .before .is-broken .ensures) ∙ c .if2 .taken)
 
--- src/refusals.rt:52:11
 is-fresh-requires : tie.Need-is-fresh-requires
 is-fresh-requires c κs = search needs
 
--- src/refusals.rt:52:5
 pick-requires : tie.Need-pick-requires
 pick-requires c κs = search needs
 
--- src/refusals.rt:40:1
 returns-3 : tie.Need-returns-3
 returns-3 c =
     let k = c .before .before .before in

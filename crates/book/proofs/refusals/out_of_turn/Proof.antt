@@ -14,15 +14,10 @@ use Rattle.book.specs.Rules.{outOfTurn}
 use borrow.Author.Needs.{needs}
 use Rattle.book.proofs.refusals.out_of_turn.Statement.{statement}
 use Rattle.book.proofs.refusals.out_of_turn.Tie as tie
-use Rattle.book.proofs.refusals.out_of_turn.Reads as reads
-use Rattle.book.proofs.refusals.out_of_turn.Lts as lts
-use Rattle.book.proofs.refusals.same_staff.Reads as same-staff-reads
 
--- src/refusals.rt:79:9
 same-staff-requires : tie.Need-same-staff-requires
 same-staff-requires c κs = search needs
 
--- src/refusals.rt:79:9
 last-fits : (s : tie.Start) → SFits w64 (s .args .line .present .last)
 last-fits s = search needs
 
@@ -39,7 +34,6 @@ returns c =
     ∙ ap (λ (k : ℤ). outwardOrReturn (s .args .line .waiting) false (λ number run. eqZ k (run .last))) (stored-id (s .fits .kb))
     ∙ sym (turned s true (eq-eqb (s .args .line .present .count) 0 (c .before .if1 .taken)))
 
--- src/refusals.rt:74:1
 returns-2 : tie.Need-returns-2
 returns-2 c =
     let s = c .before .before .before .before in

@@ -11,22 +11,16 @@ use Rattle.book.specs.Standing.{outwardOrReturn}
 use borrow.Author.Needs.{needs}
 use Rattle.book.proofs.refusals.same_staff.Statement.{statement}
 use Rattle.book.proofs.refusals.same_staff.Tie as tie
-use Rattle.book.proofs.refusals.same_staff.Reads as reads
-use Rattle.book.proofs.refusals.same_staff.Lts as lts
 
--- src/refusals.rt:69:29
 enum-told : tie.Need-enum-told
 enum-told c = search needs
 
--- src/refusals.rt:70:29
 enum-known-waiting : tie.Need-enum-known-waiting
 enum-known-waiting c = search needs
 
--- src/refusals.rt:65:1
 returns : tie.Need-returns
 returns c = search needs
 
--- src/refusals.rt:65:1
 last-fits : (c : tie.After-struct-told) → SFits w64 (c .before .before .before .waiting .given .0 .1 .0 .last)
 last-fits c = search needs
 

@@ -10,17 +10,10 @@ use Rattle.book.proofs.Unbroken.{unbroken}
 use borrow.Author.Needs.{needs}
 use Rattle.book.proofs.refusals.station_refusal.Statement.{statement}
 use Rattle.book.proofs.refusals.station_refusal.Tie as tie
-use Rattle.book.proofs.refusals.station_refusal.Reads as reads
-use Rattle.book.proofs.refusals.station_refusal.Lts as lts
-use Rattle.book.proofs.refusals.station_state.Reads as station-state-reads
-use Rattle.book.proofs.state.is_broken.Reads as is-broken-reads
-use Rattle.station.proofs.reading_refusal.Reads as reading-refusal-reads
 
--- src/refusals.rt:102:9
 reading-refusal-requires : tie.Need-reading-refusal-requires
 reading-refusal-requires c κs = search needs
 
--- src/refusals.rt:104:9
 abbrev call : tie.Start → Call
 call s = station (s .args .kb) (s .args .kf) (s .args .readings)
 
@@ -39,11 +32,9 @@ returns c =
     let s = c .before .before in
     input-refused (standingOf (s .args .b)) (call s) (c .before .reading-refusal .result) (number (c .before) ∙ input s) (c .if1 .taken)
 
--- src/refusals.rt:106:8
 is-broken-requires : tie.Need-is-broken-requires
 is-broken-requires c κs = search needs
 
--- src/refusals.rt:107:9
 read : (c : tie.Else1) → readingRefusal (c .before .before .args .kb) (c .before .before .args .kf) (c .before .before .args .readings) ≡ 0
 read c = sym (number (c .before)) ∙ c .if1 .left
 
@@ -53,15 +44,14 @@ returns-2 c =
     let s = e .before .before in
     broken-refused (standingOf (s .args .b)) (call s) (sym (input s) ∙ read e) (sym (c .before .is-broken .ensures) ∙ c .if2 .taken)
 
--- src/refusals.rt:109:5
 station-state-requires : tie.Need-station-state-requires
 station-state-requires c κs =
     let e = c .before .before in
-    let s = e .before .before in
-    (unbroken (s .args .b) (sym (c .before .is-broken .ensures) ∙ c .if2 .left) .few,
-    holds-stored (λ b f. readingRefusal b f (s .args .readings) ≡ 0) (s .fits .kb) (s .fits .kf) (read e))
+    let s = e .before .before in (
+      unbroken (s .args .b) (sym (c .before .is-broken .ensures) ∙ c .if2 .left) .few,
+      holds-stored (λ b f. readingRefusal b f (s .args .readings) ≡ 0) (s .fits .kb) (s .fits .kf) (read e),
+    )
 
--- src/refusals.rt:99:1
 returns-3 : tie.Need-returns-3
 returns-3 c =
     let k = c .before in

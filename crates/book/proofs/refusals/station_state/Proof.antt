@@ -13,43 +13,28 @@ use Rattle.book.specs.Rules.{outOfTurn}
 use borrow.Author.Needs.{needs}
 use Rattle.book.proofs.refusals.station_state.Statement.{statement}
 use Rattle.book.proofs.refusals.station_state.Tie as tie
-use Rattle.book.proofs.refusals.station_state.Reads as reads
-use Rattle.book.proofs.refusals.station_state.Lts as lts
-use Rattle.book.proofs.refusals.is_shut.Reads as is-shut-reads
-use Rattle.book.proofs.refusals.out_of_turn.Reads as out-of-turn-reads
-use Rattle.book.proofs.refusals.pick.Reads as pick-reads
-use Rattle.book.proofs.state.is_open.Reads as is-open-reads
-use Rattle.station.proofs.limit_refusal.Reads as limit-refusal-reads
 
--- src/refusals.rt:93:9
 limit-refusal-requires : tie.Need-limit-refusal-requires
 limit-refusal-requires c κs = search needs
 
--- src/refusals.rt:94:21
 out-of-turn-requires : tie.Need-out-of-turn-requires
 out-of-turn-requires c κs = search needs
 
--- src/refusals.rt:94:9
 pick-requires : tie.Need-pick-requires
 pick-requires c κs = search needs
 
--- src/refusals.rt:95:9
 pick-requires-2 : tie.Need-pick-requires-2
 pick-requires-2 c κs = search needs
 
--- src/refusals.rt:96:11
 is-open-requires : tie.Need-is-open-requires
 is-open-requires c κs = search needs
 
--- src/refusals.rt:96:28
 is-shut-requires : tie.Need-is-shut-requires
 is-shut-requires c κs = search needs
 
--- src/refusals.rt:96:5
 pick-requires-3 : tie.Need-pick-requires-3
 pick-requires-3 c κs = search needs
 
--- src/refusals.rt:85:1
 difference-fits : (s : tie.Start) → SFits w64 (s .args .b .line .present .difference)
 difference-fits s = search needs
 

@@ -13,19 +13,13 @@ use Rattle.book.specs.Rules.{discrepancyWithin}
 use borrow.Author.Needs.{needs}
 use Rattle.book.proofs.refusals.too_far.Statement.{statement}
 use Rattle.book.proofs.refusals.too_far.Tie as tie
-use Rattle.book.proofs.refusals.too_far.Reads as reads
-use Rattle.book.proofs.refusals.too_far.Lts as lts
-use Rattle.roots.proofs.limits.within.Reads as within-reads
 
--- src/refusals.rt:149:29
 enum-told : tie.Need-enum-told
 enum-told c = search needs
 
--- src/refusals.rt:150:29
 enum-known-waiting : tie.Need-enum-known-waiting
 enum-known-waiting c = search needs
 
--- src/refusals.rt:150:50
 -- the run that waits, and both runs' bounds
 abbrev run : tie.After-waiting → Run
 run w = w .waiting .given .0 .1 .0
@@ -44,19 +38,15 @@ sights w = add (known (run w .sights) (small w .0 .sights) tt) (known (w .before
 add-within : tie.Need-add-within
 add-within c = fits (height (c .before .before .before .before .before)) tt
 
--- src/refusals.rt:150:83
 add-within-2 : tie.Need-add-within-2
 add-within-2 c = fits (sights (c .before .before .before .before .before .before .before .before .before)) tt
 
--- src/refusals.rt:150:38
 within-requires : tie.Need-within-requires
 within-requires c κs = search needs
 
--- src/refusals.rt:144:1
 returns : tie.Need-returns
 returns c = search needs
 
--- src/refusals.rt:144:1
 returns-2 : tie.Need-returns-2
 returns-2 c =
     let w = c .before .before .before .before .before .before .before .before .before .before in

@@ -8,20 +8,13 @@ use Rattle.book.specs.Standing.{lineBroken, broken}
 use borrow.Author.Needs.{needs}
 use Rattle.book.proofs.state.is_broken.Statement.{statement}
 use Rattle.book.proofs.state.is_broken.Tie as tie
-use Rattle.book.proofs.state.is_broken.Reads as reads
-use Rattle.book.proofs.state.is_broken.Lts as lts
-use Rattle.adjust.proofs.table.misfits.Reads as misfits-reads
-use Rattle.book.proofs.state.line_broken.Reads as line-broken-reads
 
--- src/state.rt:106:5
 misfits-requires : tie.Need-misfits-requires
 misfits-requires c κs = search needs
 
--- src/state.rt:106:40
 line-broken-requires : tie.Need-line-broken-requires
 line-broken-requires c κs = search needs
 
--- src/state.rt:101:1
 returns : tie.Need-returns
 unfolding broken
 returns c =

@@ -8,29 +8,19 @@ use Rattle.adjust.specs.Sections.{heightInRange}
 use borrow.Author.Needs.{needs}
 use Rattle.book.proofs.state.line_broken.Statement.{statement}
 use Rattle.book.proofs.state.line_broken.Tie as tie
-use Rattle.book.proofs.state.line_broken.Reads as reads
-use Rattle.book.proofs.state.line_broken.Lts as lts
-use Rattle.adjust.proofs.height_in_range.Reads as height-in-range-reads
-use Rattle.book.proofs.state.run_fits.Reads as run-fits-reads
-use Rattle.book.proofs.state.waiting_broken.Reads as waiting-broken-reads
 
--- src/state.rt:94:6
 run-fits-requires : tie.Need-run-fits-requires
 run-fits-requires c κs = search needs
 
--- src/state.rt:95:11
 waiting-broken-requires : tie.Need-waiting-broken-requires
 waiting-broken-requires c κs = search needs
 
--- src/state.rt:96:12
 height-in-range-requires : tie.Need-height-in-range-requires
 height-in-range-requires c κs = search needs
 
--- src/state.rt:97:12
 height-in-range-requires-2 : tie.Need-height-in-range-requires-2
 height-in-range-requires-2 c κs = search needs
 
--- src/state.rt:89:1
 start-fits : (s : tie.Start) → SFits w64 (s .args .line .start .height)
 start-fits s = search needs
 

@@ -82,10 +82,11 @@ loop-less c = omega arith
 loop-again : tie.Need-loop-again Inv-loop μ-loop
 loop-again c =
     let l = c .before .before .before in
-    let s = l .before in
-    (omega arith,
-    l .loop .inv .1
-    ∙ step (stored (s .args .number)) (s .args .t1) (l .loop .k) false (c .before .before .loop-test .taken) (compared (c .before) ∙ ne-eqb _ _ (c .if1 .left)))
+    let s = l .before in (
+      omega arith,
+      l .loop .inv .1
+          ∙ step (stored (s .args .number)) (s .args .t1) (l .loop .k) false (c .before .before .loop-test .taken) (compared (c .before) ∙ ne-eqb _ _ (c .if1 .left)),
+    )
 
 returns-2 : tie.Need-returns-2 Inv-loop μ-loop
 returns-2 c =

@@ -11,19 +11,13 @@ use Rattle.numbers.proofs.Machine.{stored-id}
 use borrow.Author.Needs.{needs}
 use Rattle.book.proofs.state.run_fits.Statement.{statement}
 use Rattle.book.proofs.state.run_fits.Tie as tie
-use Rattle.book.proofs.state.run_fits.Reads as reads
-use Rattle.book.proofs.state.run_fits.Lts as lts
-use Rattle.roots.proofs.limits.magnitude.Reads as magnitude-reads
 
--- src/state.rt:75:12
 magnitude-requires : tie.Need-magnitude-requires
 magnitude-requires c κs = search needs
 
--- src/state.rt:77:12
 magnitude-requires-2 : tie.Need-magnitude-requires-2
 magnitude-requires-2 c κs = search needs
 
--- src/state.rt:71:1
 height-fits : (s : tie.Start) → SFits w64 (s .args .u .height)
 height-fits s = search needs
 

@@ -7,27 +7,19 @@ use Rattle.book.specs.Standing.{waitingBroken}
 use borrow.Author.Needs.{needs}
 use Rattle.book.proofs.state.waiting_broken.Statement.{statement}
 use Rattle.book.proofs.state.waiting_broken.Tie as tie
-use Rattle.book.proofs.state.waiting_broken.Reads as reads
-use Rattle.book.proofs.state.waiting_broken.Lts as lts
-use Rattle.book.proofs.state.run_fits.Reads as run-fits-reads
 
--- src/state.rt:84:29
 enum-told : tie.Need-enum-told
 enum-told c = search needs
 
--- src/state.rt:85:29
 enum-known-waiting : tie.Need-enum-known-waiting
 enum-known-waiting c = search needs
 
--- src/state.rt:85:38
 run-fits-requires : tie.Need-run-fits-requires
 run-fits-requires c κs = search needs
 
--- src/state.rt:80:1
 returns : tie.Need-returns
 returns c = search needs
 
--- src/state.rt:80:1
 returns-2 : tie.Need-returns-2
 returns-2 c =
     let w = c .before .before in
