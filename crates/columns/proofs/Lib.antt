@@ -1,0 +1,4 @@
+pub mod Compare
+pub mod Digits
+pub mod Put
+pub mod Fields
