@@ -51,7 +51,7 @@ no-minus (b ∷ bs) h =
     let d = digit-range b (t .0) in
     ap (λ (x : Bool). cond x true (hasMinus bs)) (ne-eqb b 45 (λ e. omega arith)) ∙ no-minus bs (t .1)
 
-digits-only : (n : ℕ) → allDigits (digits n) ≡ true
+pub digits-only : (n : ℕ) → allDigits (digits n) ≡ true
 unfolding allDigits
 digits-only n = ap allDigits (sym (append-nil (digits n))) ∙ all-digits n []
 

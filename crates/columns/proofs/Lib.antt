@@ -2,3 +2,4 @@ pub mod Compare
 pub mod Digits
 pub mod Put
 pub mod Fields
+pub mod Parser

@@ -6,7 +6,7 @@ use lib.Dec.{leb}
 use lib.IntN.{pos, negsuc}
 use Rattle.columns.specs.declared.reader.Field.{Field}
 use Rattle.columns.specs.declared.reader.Field.the-variants.{Number, Bad}
-use Rattle.columns.specs.Decimals.{digits, same, valueOf}
+use Rattle.columns.specs.Decimals.{valueOf, fieldOf}
 
 abbrev pub isDigit : ℕ → Bool
 isDigit b = cond (leb 48 b) (leb b 57) false
@@ -21,7 +21,7 @@ runOf bs = cond (allDigits bs) (Number (pos (valueOf 0 bs))) Bad
 
 -- a number with neither blanks nor a minus
 unfoldable pub naturalOf : List ℕ → Field
-naturalOf bs = cond (same bs (digits (valueOf 0 bs))) (Number (pos (valueOf 0 bs))) Bad
+naturalOf bs = cond (allDigits bs) (fieldOf bs) Bad
 
 -- what a minus makes of the number after it: there is no −0
 unfoldable pub negated : Field → Field
