@@ -3,14 +3,13 @@ use mathlib.Core.Path.{_≡_, refl, sym, ap, _∙_}
 use mathlib.Core.Bool.{Bool, true, false, cond}
 use mathlib.Core.List.{List, [], _∷_}
 use Prim.Native.Nat.{ℕ, suc, _+_, _≤_, _<_}
-use native.Mathlib.Numerals.{add-one}
 use native.Mathlib.Omega.{arith}
 use borrow.Author.Tests.{eq-eqb, eqb-true, ne-eqb}
 use lib.Dec.{eqb}
 use lib.ListN.{length, drop, getD, drop-of-length-le}
-use lib.Seq.{drop-cons}
 use Rattle.numbers.proofs.Tests.{by-test, holds, is-false, is-true}
 use Rattle.columns.specs.Decimals.{same}
+use Rattle.columns.proofs.Lists.{drop-next}
 
 -- of two tests of which the second is made where the first holds
 pub both : (a b : Bool) → cond a b false ≡ true → (a ≡ true) × (b ≡ true)
@@ -45,7 +44,7 @@ same-lengths xs ys h = same-differ xs ys (λ e. h (ap length e))
 module _ (xs ys : List ℕ) (i : ℕ) (hx : i < length xs) (hy : i < length ys) where
   turn : same (drop i xs) (drop i ys) ≡ cond (eqb (getD xs i 0) (getD ys i 0)) (same (drop (i + 1) xs) (drop (i + 1) ys)) false
   unfolding same
-  turn = (λ j. same (drop-cons xs i 0 hx j) (drop-cons ys i 0 hy j)) ∙ rw add-one
+  turn = λ j. same (drop-next xs i 0 hx j) (drop-next ys i 0 hy j)
 
   pub same-next : getD xs i 0 ≡ getD ys i 0 → same (drop i xs) (drop i ys) ≡ same (drop (i + 1) xs) (drop (i + 1) ys)
   same-next e = turn ∙ ap (λ (t : Bool). cond t (same (drop (i + 1) xs) (drop (i + 1) ys)) false) (eq-eqb (getD xs i 0) (getD ys i 0) e)

@@ -22,6 +22,20 @@ pub length-blanks : (k : ℕ) → length (blanks k) ≡ k
 unfolding blanks
 length-blanks k = length-replicate k 32
 
+pub blanks-next : (n i : ℕ) → i < n → blanks (n - i) ≡ 32 ∷ blanks (n - (i + 1))
+unfolding blanks
+blanks-next n i h = ap blanks (one n i h)
+  where
+    one : (n i : ℕ) → i < n → n - i ≡ suc (n - (i + 1))
+    one n i h = omega arith
+
+pub blanks-none : (n i : ℕ) → n ≤ i → blanks (n - i) ≡ []
+unfolding blanks
+blanks-none n i h = ap blanks (none n i h)
+  where
+    none : (n i : ℕ) → n ≤ i → n - i ≡ 0
+    none n i h = omega arith
+
 pub length-pad-of : (k : ℕ) (z : ℤ) → length (pad k z) ≡ (k - length (decimal z)) + length (decimal z)
 unfolding pad
 length-pad-of k z = length-append (blanks (k - length (decimal z))) (decimal z) ∙ ap (λ (j : ℕ). j + length (decimal z)) (length-blanks (k - length (decimal z)))

@@ -9,9 +9,10 @@ use native.Mathlib.Omega.{arith}
 use borrow.Author.Tests.{le-leb, lt-leb}
 use lib.Dec.{leb}
 use lib.ListN.{length, take, drop, getD, set, length-append, length-drop, take-append-drop}
-use lib.Seq.{length-take-le, take-at, drop-at, take-append-le, take-take, drop-append-add, drop-drop, drop-cons, set-split}
+use lib.Seq.{length-take-le, take-at, drop-at, take-append-le, take-take, drop-append-add, drop-drop, set-split}
 use Rattle.numbers.proofs.Tests.{by-test}
 use Rattle.columns.specs.Buffers.{putAt, placed}
+use Rattle.columns.proofs.Lists.{drop-next}
 
 module _ {A : Type 0} where
   pub length-putAt : (d : List A) (at : ℕ) (s : List A) → at + length s ≤ length d → length (putAt d at s) ≡ length d
@@ -79,7 +80,7 @@ module _ {A : Type 0} where
   put-next d at s i z h k =
       ap (λ (m : ℕ). putAt (set d (at + i) (getD s i z)) m (drop (i + 1) s)) (sym (add-assoc at i 1))
       ∙ put-cons d (at + i) (getD s i z) (drop (i + 1) s) h
-      ∙ ap (λ (x : List A). putAt d (at + i) x) (ap (λ (m : ℕ). getD s i z ∷ drop m s) (add-one i) ∙ sym (drop-cons s i z k))
+      ∙ ap (λ (x : List A). putAt d (at + i) x) (sym (drop-next s i z k))
 
 -- ---- a block is written where there is room for it
 

@@ -1,49 +1,54 @@
+-- `same_bytes` meets its contract. The loop's invariant: what is left of the two is equal exactly if the two are.
+use mathlib.Core.Path.{_≡_, refl, sym, _∙_}
+use Prim.Native.Nat.{_≤_, _-_}
+use lib.ListN.{length, drop}
+use Rattle.columns.specs.Decimals.{same}
+use Rattle.columns.proofs.Compare.{same-lengths, same-next, same-stop, same-end}
+use native.Mathlib.Omega.{arith}
 use Rattle.columns.proofs.bytes.same_bytes.Statement.{statement}
 use Rattle.columns.proofs.bytes.same_bytes.Tie as tie
-use Rattle.columns.proofs.bytes.same_bytes.Reads as reads
-use Rattle.columns.proofs.bytes.same_bytes.Lts as lts
 
 abbrev Inv-loop : tie.InvT-loop
-Inv-loop a b i₀ i = ?
+Inv-loop a b i₀ i = (i ≤ length a) × (length a ≡ length b) × (same a b ≡ same (drop i a) (drop i b))
 
 abbrev μ-loop : tie.MeasureT-loop
-μ-loop a b i₀ i = ?
+μ-loop a b i₀ i = length a - i
 
--- src/bytes.rt:10:9
 returns : tie.Need-returns Inv-loop μ-loop
-returns c = ?
+returns c = let a = c .before .args in sym (same-lengths (a .a .now) (a .b .now) (c .if1 .taken))
 
--- src/bytes.rt:13:5
 loop-holds : tie.Need-loop-holds Inv-loop μ-loop
-loop-holds c = ?
+loop-holds c = (omega arith, c .if1 .left, refl)
 
--- src/bytes.rt:14:12
 shared-slice-read-if2 : tie.Need-shared-slice-read-if2 Inv-loop μ-loop
-shared-slice-read-if2 c = ?
+shared-slice-read-if2 c = omega arith
 
--- src/bytes.rt:14:20
 shared-slice-read-if2-2 : tie.Need-shared-slice-read-if2-2 Inv-loop μ-loop
-shared-slice-read-if2-2 c = ?
+shared-slice-read-if2-2 c = omega arith
 
--- src/bytes.rt:15:13
 returns-2 : tie.Need-returns-2 Inv-loop μ-loop
-returns-2 c = ?
+returns-2 c =
+    let l = c .before .before .before .before in
+    let a = l .before .before .args in
+    sym (l .loop .inv .2 ∙ same-stop (a .a .now) (a .b .now) (l .loop .i) (omega arith) (omega arith) (c .if2 .taken))
 
--- src/bytes.rt:17:9
 add-i : tie.Need-add-i Inv-loop μ-loop
-add-i c = ?
+add-i c = omega arith
 
--- src/bytes.rt:13:5
 loop-less : tie.Need-loop-less Inv-loop μ-loop
-loop-less c = ?
+loop-less c = omega arith
 
--- src/bytes.rt:13:5
 loop-again : tie.Need-loop-again Inv-loop μ-loop
-loop-again c = ?
+loop-again c =
+    let l = c .before .before .before .before in
+    let a = l .before .before .args in
+    (omega arith, l .loop .inv .1, l .loop .inv .2 ∙ same-next (a .a .now) (a .b .now) (l .loop .i) (omega arith) (omega arith) (c .if2 .left))
 
--- src/bytes.rt:6:1
 returns-3 : tie.Need-returns-3 Inv-loop μ-loop
-returns-3 c = ?
+returns-3 c =
+    let l = c .before in
+    let a = l .before .before .args in
+    sym (l .loop .inv .2 ∙ same-end (a .a .now) (a .b .now) (l .loop .i) (omega arith) (omega arith))
 
 pub same-bytes-spec : {M : Type 1} → statement M
 same-bytes-spec =

@@ -1,41 +1,48 @@
+-- `skip_blanks` meets its contract. The loop's invariant: what is left is the same field.
+use mathlib.Core.Path.{_≡_, refl, sym, ap, _∙_}
+use mathlib.Core.List.{List, _∷_}
+use Prim.Native.Nat.{ℕ, _+_, _≤_, _-_}
+use lib.ListN.{length, drop}
+use Rattle.columns.specs.Decimals.{fieldOf}
+use Rattle.columns.proofs.Lists.{drop-next}
+use Rattle.columns.proofs.Parser.{field-blank}
+use native.Mathlib.Omega.{arith}
 use Rattle.columns.proofs.reader.skip_blanks.Statement.{statement}
 use Rattle.columns.proofs.reader.skip_blanks.Tie as tie
-use Rattle.columns.proofs.reader.skip_blanks.Reads as reads
-use Rattle.columns.proofs.reader.skip_blanks.Lts as lts
 
 abbrev Inv-loop : tie.InvT-loop
-Inv-loop bs i₀ i = ?
+Inv-loop bs i₀ i = (i ≤ length bs) × (fieldOf bs ≡ fieldOf (drop i bs))
 
 abbrev μ-loop : tie.MeasureT-loop
-μ-loop bs i₀ i = ?
+μ-loop bs i₀ i = length bs - i
 
--- src/reader.rt:97:5
 loop-holds : tie.Need-loop-holds Inv-loop μ-loop
-loop-holds c = ?
+loop-holds c = (omega arith, refl)
 
--- src/reader.rt:98:12
 shared-slice-read-if1 : tie.Need-shared-slice-read-if1 Inv-loop μ-loop
-shared-slice-read-if1 c = ?
+shared-slice-read-if1 c = omega arith
 
--- src/reader.rt:99:13
 returns : tie.Need-returns Inv-loop μ-loop
-returns c = ?
+returns c =
+    let l = c .before .before .before in
+    (omega arith, l .loop .inv .1, λ h. c .if1 .taken)
 
--- src/reader.rt:101:9
 add-i : tie.Need-add-i Inv-loop μ-loop
-add-i c = ?
+add-i c = omega arith
 
--- src/reader.rt:97:5
 loop-less : tie.Need-loop-less Inv-loop μ-loop
-loop-less c = ?
+loop-less c = omega arith
 
--- src/reader.rt:97:5
 loop-again : tie.Need-loop-again Inv-loop μ-loop
-loop-again c = ?
+loop-again c =
+    let l = c .before .before .before in
+    let bs = l .before .args .bs .now in
+    let i = l .loop .i in
+    let e : drop i bs ≡ 32 ∷ drop (i + 1) bs = drop-next bs i 0 (omega arith) ∙ ap (λ (b : ℕ). b ∷ drop (i + 1) bs) (c .if1 .left) in
+    (omega arith, l .loop .inv .1 ∙ ap fieldOf e ∙ field-blank (drop (i + 1) bs))
 
--- src/reader.rt:93:1
 returns-2 : tie.Need-returns-2 Inv-loop μ-loop
-returns-2 c = ?
+returns-2 c = (omega arith, c .before .loop .inv .1, λ h. absurd (omega arith))
 
 pub skip-blanks-spec : {M : Type 1} → statement M
 skip-blanks-spec =

@@ -1,32 +1,30 @@
+-- `columns_of` meets its contract.
+use mathlib.Core.Path.{_≡_, refl, sym, ap, _∙_}
+use mathlib.Core.Bool.{Bool}
+use Rattle.columns.specs.Lines.{columnsOf}
+use Rattle.columns.proofs.Lines.{columns-wide, columns-narrow}
 use borrow.Author.Needs.{needs}
 use Rattle.columns.proofs.writer.columns_of.Statement.{statement}
 use Rattle.columns.proofs.writer.columns_of.Tie as tie
-use Rattle.columns.proofs.writer.columns_of.Reads as reads
-use Rattle.columns.proofs.writer.columns_of.Lts as lts
 
--- src/writer.rt:121:9
 returns : tie.Need-returns
-returns c = ?
+unfolding columnsOf
+returns c = ap (columnsOf (c .before .args .wide)) (sym (c .if1 .taken))
 
--- src/writer.rt:123:15
 mul-result : tie.Need-mul-result
 mul-result c = search needs
 
--- src/writer.rt:123:15
 add-result : tie.Need-add-result
 add-result c = search needs
 
--- src/writer.rt:123:34
 mul-result-2 : tie.Need-mul-result-2
 mul-result-2 c = search needs
 
--- src/writer.rt:116:1
 returns-2 : tie.Need-returns-2
-returns-2 c = ?
+returns-2 c = let a = c .before .before .args in sym (ap (λ (t : Bool). columnsOf t (a .n)) (c .if2 .taken) ∙ columns-wide (a .n) (c .before .if1 .left))
 
--- src/writer.rt:116:1
 returns-3 : tie.Need-returns-3
-returns-3 c = ?
+returns-3 c = let a = c .before .before .args in sym (ap (λ (t : Bool). columnsOf t (a .n)) (c .if2 .left) ∙ columns-narrow (a .n))
 
 pub columns-of-spec : {M : Type 1} → statement M
 columns-of-spec =

@@ -1,33 +1,33 @@
+-- `count_digits` meets its contract. The loop's invariant: k counts the digits cut off, and one more.
+use mathlib.Core.Path.{_≡_, ap}
+use Prim.Native.Nat.{_+_, _≤_}
+use lib.ListN.{length}
+use Rattle.columns.specs.Decimals.{digits}
+use Rattle.columns.proofs.Digits.{length-large, digits-small, digits-some, digits-word}
+use native.Mathlib.Omega.{arith}
 use Rattle.columns.proofs.writer.count_digits.Statement.{statement}
 use Rattle.columns.proofs.writer.count_digits.Tie as tie
-use Rattle.columns.proofs.writer.count_digits.Reads as reads
-use Rattle.columns.proofs.writer.count_digits.Lts as lts
 
 abbrev Inv-loop : tie.InvT-loop
-Inv-loop x n₀ k₀ n k = ?
+Inv-loop x n₀ k₀ n k = (k + length (digits n) ≡ length (digits x) + 1) × (n ≤ x)
 
 abbrev μ-loop : tie.MeasureT-loop
-μ-loop x n₀ k₀ n k = ?
+μ-loop x n₀ k₀ n k = n
 
--- src/writer.rt:49:5
 loop-holds : tie.Need-loop-holds Inv-loop μ-loop
-loop-holds c = ?
+loop-holds c = omega arith
 
--- src/writer.rt:51:9
 add-k : tie.Need-add-k Inv-loop μ-loop
-add-k c = ?
+add-k c = omega (arith, digits-word (c .before .before .args .x) (omega arith))
 
--- src/writer.rt:49:5
 loop-less : tie.Need-loop-less Inv-loop μ-loop
-loop-less c = ?
+loop-less c = omega arith
 
--- src/writer.rt:49:5
 loop-again : tie.Need-loop-again Inv-loop μ-loop
-loop-again c = ?
+loop-again c = let n = c .before .loop .n in omega (arith, length-large n (omega arith))
 
--- src/writer.rt:44:1
 returns : tie.Need-returns Inv-loop μ-loop
-returns c = ?
+returns c = let n = c .before .loop .n in omega (arith, ap length (digits-small n (omega arith)))
 
 pub count-digits-spec : {M : Type 1} → statement M
 count-digits-spec =

@@ -1,49 +1,58 @@
+-- `put_bytes` meets its contract. The loop's invariant: with what is left of s to write, all of s is written.
+use mathlib.Core.Path.{_≡_, refl, sym, ap, _∙_}
+use mathlib.Core.List.{List}
+use Prim.Native.Nat.{ℕ, _+_, _-_, _≤_}
+use native.Mathlib.Nat.{add-zero}
+use lib.ListN.{length, drop, length-set, drop-of-length-le}
+use Rattle.columns.specs.Buffers.{putAt}
+use Rattle.columns.proofs.Put.{put-none, put-next}
+use native.Mathlib.Omega.{arith}
 use Rattle.columns.proofs.writer.put_bytes.Statement.{statement}
 use Rattle.columns.proofs.writer.put_bytes.Tie as tie
-use Rattle.columns.proofs.writer.put_bytes.Reads as reads
-use Rattle.columns.proofs.writer.put_bytes.Lts as lts
 
 abbrev Inv-loop : tie.InvT-loop
-Inv-loop buf₀ at s i₀ buf i = ?
+Inv-loop buf₀ at s i₀ buf i = (i ≤ length s) × (length buf ≡ length buf₀) × (putAt buf (at + i) (drop i s) ≡ putAt buf₀ at s)
 
 abbrev μ-loop : tie.MeasureT-loop
-μ-loop buf₀ at s i₀ buf i = ?
+μ-loop buf₀ at s i₀ buf i = length s - i
 
--- src/writer.rt:18:5
 loop-holds : tie.Need-loop-holds Inv-loop μ-loop
-loop-holds c = ?
+loop-holds c = let a = c .args in (omega arith, refl, ap (λ (k : ℕ). putAt (a .buf .now) k (a .s .now)) (add-zero (a .at)))
 
--- src/writer.rt:19:23
 shared-slice-read-buf : tie.Need-shared-slice-read-buf Inv-loop μ-loop
-shared-slice-read-buf c = ?
+shared-slice-read-buf c = omega arith
 
--- src/writer.rt:19:13
 add-buf : tie.Need-add-buf Inv-loop μ-loop
-add-buf c = ?
+add-buf c = omega arith
 
--- src/writer.rt:19:9
 slice-write-buf : tie.Need-slice-write-buf Inv-loop μ-loop
-slice-write-buf c = ?
+slice-write-buf c = omega arith
 
--- src/writer.rt:20:9
 add-i : tie.Need-add-i Inv-loop μ-loop
-add-i c = ?
+add-i c = omega arith
 
--- src/writer.rt:18:5
 loop-less : tie.Need-loop-less Inv-loop μ-loop
-loop-less c = ?
+loop-less c = omega arith
 
--- src/writer.rt:18:5
 loop-again : tie.Need-loop-again Inv-loop μ-loop
-loop-again c = ?
+loop-again c =
+    let l = c .before .before in
+    let a = l .before .args in (
+      omega arith,
+      simp length-set (l .loop .inv .1),
+      put-next (l .loop .buf) (a .at) (a .s .now) (l .loop .i) 0 (omega arith) (omega arith) ∙ l .loop .inv .2,
+    )
 
--- src/writer.rt:13:1
 same-length : tie.Need-same-length Inv-loop μ-loop
-same-length c = ?
+same-length c = c .before .loop .inv .1
 
--- src/writer.rt:13:1
 returns : tie.Need-returns Inv-loop μ-loop
-returns c = ?
+returns c =
+    let l = c .before in
+    let a = l .before .args in
+    sym (put-none (l .loop .buf) (a .at + l .loop .i))
+    ∙ ap (putAt (l .loop .buf) (a .at + l .loop .i)) (sym (drop-of-length-le (a .s .now) {i = l .loop .i} (omega arith)))
+    ∙ l .loop .inv .2
 
 pub put-bytes-spec : {M : Type 1} → statement M
 put-bytes-spec =

@@ -1,19 +1,21 @@
+-- `width_of` meets its contract.
+use mathlib.Core.Path.{_≡_, refl, sym, _∙_}
+use borrow.Author.Tests.{eq-eqb, ne-eqb}
+use Rattle.columns.specs.Lines.{widthOf}
 use Rattle.columns.proofs.writer.width_of.Statement.{statement}
 use Rattle.columns.proofs.writer.width_of.Tie as tie
-use Rattle.columns.proofs.writer.width_of.Reads as reads
-use Rattle.columns.proofs.writer.width_of.Lts as lts
 
--- src/writer.rt:105:1
 returns : tie.Need-returns
-returns c = ?
+unfolding widthOf
+returns c = simp (c .before .if1 .taken, eq-eqb _ _ (c .if2 .taken))
 
--- src/writer.rt:105:1
 returns-2 : tie.Need-returns-2
-returns-2 c = ?
+unfolding widthOf
+returns-2 c = simp (c .before .if1 .taken, ne-eqb _ _ (c .if2 .left))
 
--- src/writer.rt:105:1
 returns-3 : tie.Need-returns-3
-returns-3 c = ?
+unfolding widthOf
+returns-3 c = simp (c .if1 .left)
 
 pub width-of-spec : {M : Type 1} → statement M
 width-of-spec = tie.close (tie.spec returns returns-2 returns-3)
