@@ -7,7 +7,9 @@ use native.Mathlib.Omega.{arith}
 use borrow.Author.Tests.{le-leb, leb-true, ne-eqb}
 use lib.Dec.{eqb}
 use lib.IntN.{ℤ, pos, negsuc, negℤ, natAbs}
+use lib.Signed.{_≤ℤ_, _<ℤ_}
 use lib.ListN.{length, length-append, length-replicate}
+use Rattle.numbers.proofs.Parts.{ints}
 use Rattle.numbers.proofs.Tests.{by-test, is-true}
 use Rattle.columns.specs.declared.reader.Field.{Field}
 use Rattle.columns.specs.declared.reader.Field.the-variants.{Number, Bad}
@@ -15,6 +17,23 @@ use Rattle.columns.specs.Decimals.{blanks, digits, decimal, fitsIn, pad,
 use Rattle.columns.specs.Parser.{isDigit, allDigits}
 use Rattle.columns.proofs.Compare.{both, same-true, same-equal, same-differ}
 use Rattle.columns.proofs.Digits.{digit-range, all-digits, value-digits, digits-below, digits-some, first-digit}
+
+-- ---- by sign
+
+pub decimal-minus : {z : ℤ} → z <ℤ pos 0 → decimal z ≡ 45 ∷ digits (natAbs z)
+unfolding decimal
+decimal-minus {z = pos n} h = absurd (omega ints)
+decimal-minus {z = negsuc n} h = refl
+
+pub decimal-plain : {z : ℤ} → pos 0 ≤ℤ z → decimal z ≡ digits (natAbs z)
+unfolding decimal
+decimal-plain {z = pos n} h = refl
+decimal-plain {z = negsuc n} h = absurd (omega ints)
+
+pub digits-decimal : (z : ℤ) → length (digits (natAbs z)) ≤ length (decimal z)
+unfolding decimal
+digits-decimal (pos n) = omega arith
+digits-decimal (negsuc n) = omega arith
 
 -- ---- lengths
 

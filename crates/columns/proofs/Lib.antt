@@ -6,3 +6,4 @@ pub mod Fields
 pub mod Parser
 pub mod Runs
 pub mod Lines
+pub mod Records

@@ -5,7 +5,7 @@ use mathlib.Core.List.{List, [], _∷_, _++_, append-nil}
 use Prim.Native.Nat.{ℕ, zero, suc, _+_, _-_, _*_, _%_, _≤_, _<_}
 use native.Mathlib.Omega.{arith}
 use lib.IntN.{ℤ, pos, negsuc}
-use lib.ListN.{length}
+use lib.ListN.{length, getD}
 use Rattle.numbers.proofs.Tests.{by-test, is-true, is-false, not-both}
 use Rattle.columns.specs.declared.reader.Field.{Field}
 use Rattle.columns.specs.declared.reader.Field.the-variants.{Number, Bad}
@@ -115,14 +115,18 @@ field-other b r h k =
 
 -- ---- digits
 
-pub natural-empty : naturalOf [] ≡ Bad
-unfolding naturalOf allDigits fieldOf candidate hasMinus valueOf pad decimal digits digitsBy blanks same
-natural-empty = refl
+pub field-empty : fieldOf [] ≡ Bad
+unfolding fieldOf candidate hasMinus valueOf pad decimal digits digitsBy blanks same
+field-empty = refl
 
--- a leading zero with more after it
-pub natural-zero : (c : ℕ) (r : List ℕ) → naturalOf (48 ∷ c ∷ r) ≡ Bad
+pub natural-empty : (bs : List ℕ) → length bs ≡ 0 → naturalOf bs ≡ Bad
+unfolding naturalOf allDigits
+natural-empty [] h = field-empty
+natural-empty (b ∷ bs) h = absurd (omega arith)
+
+leading-zero : (c : ℕ) (r : List ℕ) → naturalOf (48 ∷ c ∷ r) ≡ Bad
 unfolding decimal
-natural-zero c r = go (naturalOf (48 ∷ c ∷ r)) refl
+leading-zero c r = go (naturalOf (48 ∷ c ∷ r)) refl
   where
     none : (z : ℤ) → 48 ∷ c ∷ r ≡ decimal z → ⊥
     none (pos zero) e = omega (arith, ap length (e ∙ digits-small 0 (omega arith)))
@@ -132,6 +136,11 @@ natural-zero c r = go (naturalOf (48 ∷ c ∷ r)) refl
     go : (f : Field) → naturalOf (48 ∷ c ∷ r) ≡ f → naturalOf (48 ∷ c ∷ r) ≡ Bad
     go (Number z) e = absurd (none z (field-digits z (48 ∷ c ∷ r) e))
     go Bad e = e
+
+pub natural-zero : (bs : List ℕ) → 1 < length bs → getD bs 0 0 ≡ 48 → naturalOf bs ≡ Bad
+natural-zero [] h e = absurd (omega arith)
+natural-zero (b ∷ []) h e = absurd (omega arith)
+natural-zero (b ∷ c ∷ r) h e = ap (λ (x : ℕ). naturalOf (x ∷ c ∷ r)) e ∙ leading-zero c r
 
 -- other digits are their number's
 run-is : (bs : List ℕ) → (allDigits bs ≡ true → bs ≡ digits (valueOf 0 bs)) → naturalOf bs ≡ runOf bs
@@ -148,13 +157,16 @@ digit-is b t =
     whole : (b : ℕ) → 48 ≤ b → b ≤ 57 → 48 + (10 * 0 + (b - 48)) % 10 ≡ b
     whole b l h = omega arith
 
-pub natural-one : (b : ℕ) → naturalOf (b ∷ []) ≡ runOf (b ∷ [])
+pub natural-one : (bs : List ℕ) → length bs ≡ 1 → naturalOf bs ≡ runOf bs
 unfolding allDigits valueOf
-natural-one b = run-is (b ∷ []) (λ h. sym (digit-is b (both (isDigit b) true h .0)))
+natural-one [] h = absurd (omega arith)
+natural-one (b ∷ []) h = run-is (b ∷ []) (λ h. sym (digit-is b (both (isDigit b) true h .0)))
+natural-one (b ∷ c ∷ r) h = absurd (omega arith)
 
-pub natural-more : (b : ℕ) (r : List ℕ) → (b ≡ 48 → ⊥) → naturalOf (b ∷ r) ≡ runOf (b ∷ r)
+pub natural-more : (bs : List ℕ) → 0 < length bs → (getD bs 0 0 ≡ 48 → ⊥) → naturalOf bs ≡ runOf bs
 unfolding allDigits valueOf
-natural-more b r k =
+natural-more [] h k = absurd (omega arith)
+natural-more (b ∷ r) h k =
     run-is (b ∷ r)
     (λ h.
         let t = both (isDigit b) (allDigits r) h in

@@ -60,6 +60,14 @@ module _ {A : Type 0} where
   unfolding putAt
   set-put d i x h = set-split d i x h ∙ ap (λ (k : ℕ). take i d ++ (x ∷ drop k d)) (sym (add-one i))
 
+  -- a store right before a block
+  pub put-head : (d : List A) (i r : ℕ) (x : A) (s : List A) → i + 1 ≡ r → r + length s ≤ length d → set (putAt d r s) i x ≡ putAt d i (x ∷ s)
+  put-head d i r x s e h =
+      let l : length (putAt d r s) ≡ length d = length-putAt d r s h in
+      set-put (putAt d r s) i x (omega arith)
+      ∙ ap (λ (k : ℕ). putAt (putAt d k s) i (x ∷ [])) (sym e)
+      ∙ put-before d i (x ∷ []) s (omega arith)
+
   -- ---- what is left of a block to write
 
   -- a store, and then what follows it

@@ -2,7 +2,7 @@
 use mathlib.Core.Bool.{Bool, true, false, cond}
 use mathlib.Core.List.{List, [], _∷_, _++_}
 use Prim.Native.Nat.{ℕ, zero, suc, _+_, _-_, _*_}
-use lib.Dec.{eqb, leb}
+use lib.Dec.{leb}
 use lib.IntN.{ℤ, pos, negℤ}
 use lib.Signed.{ltZ}
 use lib.ListN.{length}
@@ -20,7 +20,8 @@ lineWith s = s ++ lineEnd (length s)
 
 -- the columns of a field with `after` more fields after it: eight; sixteen for the last field of a line whose last field is wide
 unfoldable pub widthOf : Bool → ℕ → ℕ
-widthOf wide after = cond wide (cond (eqb after 0) 16 8) 8
+widthOf wide zero = cond wide 16 8
+widthOf wide (suc after) = 8
 
 -- numbers in fields, one after the other
 unfoldable pub fields : Bool → List ℤ → List ℕ
@@ -35,7 +36,7 @@ allFit wide (z ∷ zs) = cond (fitsIn (widthOf wide (length zs)) z) (allFit wide
 -- the columns of n fields
 unfoldable pub columnsOf : Bool → ℕ → ℕ
 columnsOf wide zero = 0
-columnsOf wide (suc n) = 8 * n + cond wide 16 8
+columnsOf wide (suc n) = 8 * n + widthOf wide 0
 
 -- whether a line has room for a tag of this length and the numbers' fields, and each number fits its field
 unfoldable pub lineFits : ℕ → List ℤ → Bool → Bool

@@ -105,11 +105,10 @@ fn put_number(buf: &mut [u8], at: usize, x: i64, k: usize)
 fn width_of(wide: bool, after: usize) -> usize
     ensures { λ r. ⌜ r ≡ widthOf wide after ⌝ }
 {
-    if wide {
-        if after == 0 { 16 } else { 8 }
-    } else {
-        8
+    if after != 0 {
+        return 8;
     }
+    if wide { 16 } else { 8 }
 }
 
 // The columns of n fields.
