@@ -7,3 +7,5 @@ pub mod Parser
 pub mod Runs
 pub mod Lines
 pub mod Records
+pub mod RoundTrip
+pub mod Texts
