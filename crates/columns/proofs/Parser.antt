@@ -4,13 +4,16 @@ use mathlib.Core.Bool.{Bool, true, false, cond}
 use mathlib.Core.List.{List, [], _∷_, _++_, append-nil}
 use Prim.Native.Nat.{ℕ, zero, suc, _+_, _-_, _*_, _%_, _≤_, _<_}
 use native.Mathlib.Omega.{arith}
+use native.Mathlib.Numerals.{add-one}
+use borrow.Author.Tests.{eqb-true, eqb-false}
+use lib.Dec.{eqb}
 use lib.IntN.{ℤ, pos, negsuc}
-use lib.ListN.{length, getD}
+use lib.ListN.{length, drop, getD}
 use Rattle.numbers.proofs.Tests.{by-test, is-true, is-false, not-both}
 use Rattle.columns.specs.declared.reader.Field.{Field}
 use Rattle.columns.specs.declared.reader.Field.the-variants.{Number, Bad}
 use Rattle.columns.specs.Decimals.{blanks, digits, digitsBy, decimal, pad, same, valueOf, hasMinus, candidate, fieldOf}
-use Rattle.columns.specs.Parser.{isDigit, allDigits, runOf, naturalOf, negated}
+use Rattle.columns.specs.Parser.{leadingBlanks, isDigit, allDigits, runOf, naturalOf, negated}
 use Rattle.columns.proofs.Compare.{both}
 use Rattle.columns.proofs.Digits.{First, first-digit, digits-small, digits-value, digit-range}
 use Rattle.columns.proofs.Fields.{digits-only, length-blanks, length-pad-of, field-written, written-field, field-is}
@@ -65,6 +68,27 @@ blank-less z r = go (suc (length r) - length (decimal z)) refl
 pub field-blank : (r : List ℕ) → fieldOf (32 ∷ r) ≡ fieldOf r
 field-blank r =
     field-is (32 ∷ r) (fieldOf r) (λ z e. blank-more z r (written-field r z e)) (λ z e. field-written r z (blank-less z r e))
+
+-- what follows the blanks is the same field, and begins with another byte
+pub record AfterBlanks (bs : List ℕ) (i : ℕ) : Type 0 where
+  pub same-field : fieldOf bs ≡ fieldOf (drop i bs)
+  pub other : i < length bs → getD bs i 0 ≡ 32 → ⊥
+
+after-first : (b : ℕ) (bs : List ℕ) → AfterBlanks bs (leadingBlanks bs) → AfterBlanks (b ∷ bs) (cond (eqb b 32) (leadingBlanks bs + 1) 0)
+after-first b bs a =
+    by-test (eqb b 32) (λ t. AfterBlanks (b ∷ bs) (cond t (leadingBlanks bs + 1) 0))
+    (λ t.
+        subst (AfterBlanks (b ∷ bs)) (sym (add-one (leadingBlanks bs)))
+        (record {
+          same-field = ap (λ (x : ℕ). fieldOf (x ∷ bs)) (eqb-true b 32 (is-true t)) ∙ field-blank bs ∙ a .same-field;
+          other = λ h. a .other (omega arith);
+        }))
+    (λ t. record { same-field = refl; other = λ h. eqb-false b 32 (is-false t) })
+
+pub after-blanks : (bs : List ℕ) → AfterBlanks bs (leadingBlanks bs)
+unfolding leadingBlanks
+after-blanks [] = record { same-field = refl; other = λ h. absurd (omega arith) }
+after-blanks (b ∷ bs) = after-first b bs (after-blanks bs)
 
 -- digits are a number where they are its digits
 digits-field : (n : ℕ) (r : List ℕ) → r ≡ digits n → naturalOf r ≡ Number (pos n)

@@ -1,10 +1,11 @@
--- A turn of the loop that reads a run of digits, and what a minus makes of the number.
+-- The loops of the parser: a turn of the one that counts blanks and of the one that reads digits; and what a minus makes of a number.
 use mathlib.Core.Path.{_≡_, refl, ap, _∙_}
 use mathlib.Core.Bool.{Bool, true, false, cond}
 use mathlib.Core.List.{List, [], _∷_}
 use Prim.Native.Nat.{ℕ, zero, suc, _+_, _-_, _*_, _≤_, _<_}
-use borrow.Author.Tests.{le-leb, lt-leb}
+use borrow.Author.Tests.{le-leb, lt-leb, eq-eqb, ne-eqb}
 use native.Mathlib.Omega.{arith}
+use lib.Dec.{eqb}
 use lib.IntN.{ℤ, pos, negsuc, _-ℤ_, +ℤ-idl}
 use lib.Signed.{_≤ℤ_, _<ℤ_}
 use lib.ListN.{length, drop, getD, drop-of-length-le}
@@ -14,9 +15,28 @@ use Rattle.numbers.proofs.Parts.{ints}
 use Rattle.numbers.proofs.Machine.{fits-as}
 use Rattle.columns.specs.declared.reader.Field.the-variants.{Number, Bad}
 use Rattle.columns.specs.Decimals.{valueOf}
-use Rattle.columns.specs.Parser.{isDigit, allDigits, runOf, negated}
+use Rattle.columns.specs.Parser.{leadingBlanks, isDigit, allDigits, runOf, negated}
 use Rattle.columns.proofs.Lists.{drop-next}
 use Rattle.columns.proofs.Digits.{digit-yes}
+
+-- ---- blanks
+
+module _ (bs : List ℕ) (i : ℕ) (h : i < length bs) where
+  blanks-turn : leadingBlanks (drop i bs) ≡ cond (eqb (getD bs i 0) 32) (leadingBlanks (drop (i + 1) bs) + 1) 0
+  unfolding leadingBlanks
+  blanks-turn = ap leadingBlanks (drop-next bs i 0 h)
+
+  pub blanks-more : getD bs i 0 ≡ 32 → leadingBlanks (drop i bs) ≡ leadingBlanks (drop (i + 1) bs) + 1
+  blanks-more e = blanks-turn ∙ ap (λ (t : Bool). cond t (leadingBlanks (drop (i + 1) bs) + 1) 0) (eq-eqb (getD bs i 0) 32 e)
+
+  pub blanks-stop : (getD bs i 0 ≡ 32 → ⊥) → leadingBlanks (drop i bs) ≡ 0
+  blanks-stop k = blanks-turn ∙ ap (λ (t : Bool). cond t (leadingBlanks (drop (i + 1) bs) + 1) 0) (ne-eqb (getD bs i 0) 32 k)
+
+pub blanks-end : (bs : List ℕ) (i : ℕ) → length bs ≤ i → leadingBlanks (drop i bs) ≡ 0
+unfolding leadingBlanks
+blanks-end bs i h = ap leadingBlanks (drop-of-length-le bs h)
+
+-- ---- digits
 
 digit-low : (b : ℕ) → b < 48 → isDigit b ≡ false
 digit-low b h = simp (lt-leb 48 b h)
@@ -53,7 +73,8 @@ module _ (bs : List ℕ) where
       let e = drop-of-length-le bs h in
       ap (λ (t : Bool). cond t (Number (pos (valueOf 0 bs))) Bad) (a ∙ ap allDigits e) ∙ ap (λ (m : ℕ). Number (pos m)) (v ∙ ap (valueOf n) e)
 
--- a minus before a number
+-- ---- a minus before a number
+
 pub minus-above : (z : ℤ) → pos 0 <ℤ z → Number (pos 0 -ℤ z) ≡ negated (Number z)
 unfolding negated
 minus-above (pos zero) h = absurd (omega ints)

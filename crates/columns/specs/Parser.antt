@@ -1,12 +1,17 @@
--- The parts of a field that its parser reads after the blanks; proofs/Parser.antt shows how they make up `fieldOf`.
+-- The parts of a field as its parser reads them, each in one loop or branch; proofs/Parser.antt shows how they make up `fieldOf`.
 use mathlib.Core.Bool.{Bool, true, false, cond}
 use mathlib.Core.List.{List, [], _∷_}
-use Prim.Native.Nat.{ℕ, zero, suc}
-use lib.Dec.{leb}
+use Prim.Native.Nat.{ℕ, zero, suc, _+_}
+use lib.Dec.{eqb, leb}
 use lib.IntN.{pos, negsuc}
 use Rattle.columns.specs.declared.reader.Field.{Field}
 use Rattle.columns.specs.declared.reader.Field.the-variants.{Number, Bad}
 use Rattle.columns.specs.Decimals.{valueOf, fieldOf}
+
+-- how many blanks the bytes begin with
+unfoldable pub leadingBlanks : List ℕ → ℕ
+leadingBlanks [] = 0
+leadingBlanks (b ∷ bs) = cond (eqb b 32) (leadingBlanks bs + 1) 0
 
 abbrev pub isDigit : ℕ → Bool
 isDigit b = cond (leb 48 b) (leb b 57) false

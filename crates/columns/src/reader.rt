@@ -1,9 +1,9 @@
 // Lines of the text book, read.
 ghost use mathlib.Core.Path.{_≡_};
-ghost use Prim.Native.Nat.{_+_, _*_, _≤_, _<_};
-ghost use lib.ListN.{length, drop, getD};
+ghost use Prim.Native.Nat.{_+_, _*_, _≤_};
+ghost use lib.ListN.{length, drop};
 ghost use Rattle.columns.specs.Decimals.{same, fieldOf};
-ghost use Rattle.columns.specs.Parser.{runOf, naturalOf, negated};
+ghost use Rattle.columns.specs.Parser.{leadingBlanks, runOf, naturalOf, negated};
 ghost use Rattle.columns.specs.Lines.{lineEnd, heading};
 ghost use Rattle.columns.specs.Records.{tags, tagAmong, fieldCount, numbersLine, refusedLine, recordIn, lineIn};
 use super::bytes::same_bytes;
@@ -89,9 +89,9 @@ fn negate(f: Field) -> Field
     }
 }
 
-// The index of the first byte that is not a blank, or the length.
-fn skip_blanks(bs: &[u8]) -> usize
-    ensures { λ r. ⌜ (r ≤ length (now (bs .entry))) × (fieldOf (now (bs .entry)) ≡ fieldOf (drop r (now (bs .entry)))) × (r < length (now (bs .entry)) → getD (now (bs .entry)) r 0 ≡ 32 → ⊥) ⌝ }
+// How many blanks a field begins with.
+fn count_blanks(bs: &[u8]) -> usize
+    ensures { λ r. ⌜ r ≡ leadingBlanks (now (bs .entry)) ⌝ }
 {
     let mut i = 0;
     while i < bs.len() {
@@ -108,8 +108,8 @@ fn read_field(bs: &[u8]) -> Field
     requires { ⌜ length (now bs) ≤ 18 ⌝ }
     ensures { λ r. ⌜ r ≡ fieldOf (now (bs .entry)) ⌝ }
 {
-    let first = skip_blanks(bs);
-    if first == bs.len() {
+    let first = count_blanks(bs);
+    if bs.len() <= first {
         return Field::Bad;
     }
     if bs[first] == b'-' {

@@ -1,33 +1,36 @@
 -- `read_field` meets its contract: after the blanks, a minus and a number, or a number.
-use mathlib.Core.Path.{_≡_, refl, sym, ap, _∙_}
+use mathlib.Core.Path.{_≡_, refl, sym, ap, subst, _∙_}
 use mathlib.Core.List.{List, _∷_}
 use Prim.Native.Nat.{ℕ, _+_, _<_}
 use lib.ListN.{length, drop, getD, drop-of-length-le}
 use Rattle.columns.specs.Decimals.{fieldOf}
 use Rattle.columns.specs.Parser.{naturalOf, negated}
 use Rattle.columns.proofs.Lists.{drop-next, part-rest}
-use Rattle.columns.proofs.Parser.{field-empty, field-minus, field-other}
+use Rattle.columns.proofs.Parser.{AfterBlanks, after-blanks, field-empty, field-minus, field-other}
 use borrow.Author.Needs.{needs}
 use native.Mathlib.Omega.{arith}
 use Rattle.columns.proofs.reader.read_field.Statement.{statement}
 use Rattle.columns.proofs.reader.read_field.Tie as tie
 
+after : (k : tie.After-count-blanks) → AfterBlanks (k .before .before .args .bs .now) (k .count-blanks .result)
+after k = subst (AfterBlanks (k .before .before .args .bs .now)) (sym (k .count-blanks .ensures)) (after-blanks (k .before .before .args .bs .now))
+
 -- the field from its first byte on that is not a blank
 first :
-    (k : tie.After-skip-blanks)
-    → k .skip-blanks .result < length (k .before .before .args .bs .now)
+    (k : tie.After-count-blanks)
+    → k .count-blanks .result < length (k .before .before .args .bs .now)
     → fieldOf (k .before .before .args .bs .now)
-      ≡ fieldOf (getD (k .before .before .args .bs .now) (k .skip-blanks .result) 0 ∷ drop (k .skip-blanks .result + 1) (k .before .before .args .bs .now))
-first k h = k .skip-blanks .ensures .1 ∙ ap fieldOf (drop-next (k .before .before .args .bs .now) (k .skip-blanks .result) 0 h)
+      ≡ fieldOf (getD (k .before .before .args .bs .now) (k .count-blanks .result) 0 ∷ drop (k .count-blanks .result + 1) (k .before .before .args .bs .now))
+first k h = after k .same-field ∙ ap fieldOf (drop-next (k .before .before .args .bs .now) (k .count-blanks .result) 0 h)
 
-skip-blanks-requires : tie.Need-skip-blanks-requires
-skip-blanks-requires c κs = search needs
+count-blanks-requires : tie.Need-count-blanks-requires
+count-blanks-requires c κs = search needs
 
 returns : tie.Need-returns
 returns c =
     let k = c .before in
     let bs = k .before .before .args .bs .now in
-    sym (k .skip-blanks .ensures .1 ∙ ap fieldOf (drop-of-length-le bs {i = k .skip-blanks .result} (omega arith)) ∙ field-empty)
+    sym (after k .same-field ∙ ap fieldOf (drop-of-length-le bs {i = k .count-blanks .result} (omega arith)) ∙ field-empty)
 
 shared-slice-read-if2 : tie.Need-shared-slice-read-if2
 shared-slice-read-if2 c = search needs
@@ -55,7 +58,7 @@ returns-2 c =
     let t = c .before .before .before in
     let k = t .before .before .before in
     let bs = k .before .before .args .bs .now in
-    let i = k .skip-blanks .result in
+    let i = k .count-blanks .result in
     c .negate .ensures
     ∙ ap negated (c .before .natural .ensures ∙ ap naturalOf (part-rest bs (i + 1)))
     ∙ sym (first k (omega arith) ∙ ap (λ (b : ℕ). fieldOf (b ∷ drop (i + 1) bs)) (t .if2 .taken) ∙ field-minus (drop (i + 1) bs))
@@ -77,16 +80,17 @@ returns-3 c =
     let t = c .before .before in
     let k = t .before .before .before in
     let bs = k .before .before .args .bs .now in
-    let i = k .skip-blanks .result in
+    let i = k .count-blanks .result in
+    let h : i < length bs = omega arith in
     c .natural2 .ensures
-    ∙ ap naturalOf (part-rest bs i ∙ drop-next bs i 0 (omega arith))
-    ∙ sym (first k (omega arith) ∙ field-other (getD bs i 0) (drop (i + 1) bs) (k .skip-blanks .ensures .2 (omega arith)) (t .if2 .left))
+    ∙ ap naturalOf (part-rest bs i ∙ drop-next bs i 0 h)
+    ∙ sym (first k h ∙ field-other (getD bs i 0) (drop (i + 1) bs) (after k .other h) (t .if2 .left))
 
 pub read-field-spec : {M : Type 1} → statement M
 read-field-spec =
     tie.close
     (tie.spec
-    skip-blanks-requires
+    count-blanks-requires
     returns
     shared-slice-read-if2
     add-rest
