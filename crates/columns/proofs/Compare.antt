@@ -2,12 +2,11 @@
 use mathlib.Core.Path.{_≡_, refl, sym, ap, _∙_}
 use mathlib.Core.Bool.{Bool, true, false, cond}
 use mathlib.Core.List.{List, [], _∷_}
-use Prim.Native.Nat.{ℕ, suc, _+_, _≤_, _<_}
-use native.Mathlib.Omega.{arith}
+use Prim.Native.Nat.{ℕ, _+_, _≤_, _<_}
 use borrow.Author.Tests.{eq-eqb, eqb-true, ne-eqb}
 use lib.Dec.{eqb}
 use lib.ListN.{length, drop, getD, drop-of-length-le}
-use Rattle.numbers.proofs.Tests.{by-test, holds, is-false, is-true}
+use Rattle.numbers.proofs.Tests.{by-test, holds, is-true}
 use Rattle.columns.specs.Decimals.{same}
 use Rattle.columns.proofs.Lists.{drop-next}
 

@@ -1,10 +1,10 @@
 -- Decimal digits: the two equations and the induction that hide the fuel of `digits`; its first digit, its length, and the value of its digits.
-use mathlib.Core.Path.{_≡_, refl, sym, ap, subst, _∙_}
+use mathlib.Core.Path.{_≡_, sym, ap, _∙_}
 use mathlib.Core.Bool.{Bool, true, false, cond}
 use mathlib.Core.List.{List, [], _∷_, _++_, append-assoc, append-nil}
 use Prim.Native.Nat.{ℕ, zero, suc, _+_, _-_, _*_, _/_, _%_, _^_, _≤_, _<_}
 use native.Mathlib.Decide.{decLt}
-use native.Mathlib.Nat.{pow-suc}
+use native.Mathlib.Nat.{pow-suc, one-le-pow}
 use native.Mathlib.Omega.{arith}
 use borrow.Author.Tests.{lt-ltb, le-ltb, le-leb, leb-true}
 use lib.Dec.{leb}
@@ -42,9 +42,9 @@ fuel (suc f) zero n h k = absurd (omega arith)
 fuel (suc f) (suc g) n h k =
     one-or-more n (λ s. by-small f n s ∙ sym (by-small g n s))
     (λ l.
-        by-large f n l
-        ∙ ap (λ (x : List ℕ). x ++ last n) (fuel f g (n / 10) (omega arith) (omega arith))
-        ∙ sym (by-large g n l))
+    by-large f n l
+    ∙ ap (λ (x : List ℕ). x ++ last n) (fuel f g (n / 10) (omega arith) (omega arith))
+    ∙ sym (by-large g n l))
 
 pub digits-small : (n : ℕ) → n < 10 → digits n ≡ (48 + n % 10) ∷ []
 unfolding digits
@@ -77,10 +77,10 @@ all-digits =
     digits-ind (λ n. (r : List ℕ) → allDigits (digits n ++ r) ≡ allDigits r)
     (λ n h r. ap (λ (x : List ℕ). allDigits (x ++ r)) (digits-small n h) ∙ all-last n r)
     (λ n h ih r.
-        ap (λ (x : List ℕ). allDigits (x ++ r)) (digits-large n h)
-        ∙ ap allDigits (append-assoc (digits (n / 10)) (last n) r)
-        ∙ ih ((48 + n % 10) ∷ r)
-        ∙ all-last n r)
+    ap (λ (x : List ℕ). allDigits (x ++ r)) (digits-large n h)
+    ∙ ap allDigits (append-assoc (digits (n / 10)) (last n) r)
+    ∙ ih ((48 + n % 10) ∷ r)
+    ∙ all-last n r)
 
 -- reading the digits of n, and then r
 pub value-digits : (n : ℕ) (r : List ℕ) → valueOf 0 (digits n ++ r) ≡ valueOf n r
@@ -89,10 +89,10 @@ value-digits =
     digits-ind (λ n. (r : List ℕ) → valueOf 0 (digits n ++ r) ≡ valueOf n r)
     (λ n h r. ap (λ (x : List ℕ). valueOf 0 (x ++ r)) (digits-small n h) ∙ ap (λ (k : ℕ). valueOf k r) (one n h))
     (λ n h ih r.
-        ap (λ (x : List ℕ). valueOf 0 (x ++ r)) (digits-large n h)
-        ∙ ap (valueOf 0) (append-assoc (digits (n / 10)) (last n) r)
-        ∙ ih ((48 + n % 10) ∷ r)
-        ∙ ap (λ (k : ℕ). valueOf k r) (more n))
+    ap (λ (x : List ℕ). valueOf 0 (x ++ r)) (digits-large n h)
+    ∙ ap (valueOf 0) (append-assoc (digits (n / 10)) (last n) r)
+    ∙ ih ((48 + n % 10) ∷ r)
+    ∙ ap (λ (k : ℕ). valueOf k r) (more n))
   where
     one : (n : ℕ) → n < 10 → 10 * 0 + (48 + n % 10 - 48) ≡ n
     one n h = omega arith
@@ -114,14 +114,14 @@ first-digit =
     digits-ind First
     (λ n h. record { head = 48 + n % 10; tail = []; is = digits-small n h; low = omega arith; high = omega arith; nonzero = λ p. omega arith })
     (λ n h ih.
-        record {
-          head = ih .head;
-          tail = ih .tail ++ last n;
-          is = digits-large n h ∙ ap (λ (x : List ℕ). x ++ last n) (ih .is);
-          low = ih .low;
-          high = ih .high;
-          nonzero = λ p. ih .nonzero (omega arith);
-        })
+    record {
+      head = ih .head;
+      tail = ih .tail ++ last n;
+      is = digits-large n h ∙ ap (λ (x : List ℕ). x ++ last n) (ih .is);
+      low = ih .low;
+      high = ih .high;
+      nonzero = λ p. ih .nonzero (omega arith);
+    })
 
 -- ---- its length
 
@@ -137,12 +137,19 @@ digits-below zero n p h = absurd (omega arith)
 digits-below (suc k) n p h =
     one-or-more n (λ s. omega (arith, ap length (digits-small n s)))
     (λ l.
-        let q : n / 10 < 10 ^ k = omega (arith, pow-suc 10 k) in
-        omega (arith, length-large n l, digits-below k (n / 10) (some k q l) q))
+    let q : n / 10 < 10 ^ k = omega (arith, pow-suc 10 k) in
+    omega (arith, length-large n l, digits-below k (n / 10) (some k q l) q))
   where
     some : (k : ℕ) → n / 10 < 10 ^ k → 10 ≤ n → 0 < k
     some zero q l = absurd (omega arith)
     some (suc k) q l = omega arith
+
+-- and only such a number has
+pub digits-bound : (k n : ℕ) → length (digits n) ≤ k → n < 10 ^ k
+digits-bound zero n h = absurd (omega (arith, digits-some n))
+digits-bound (suc k) n h =
+    one-or-more n (λ s. omega (arith, pow-suc 10 k, one-le-pow k 10 (omega arith)))
+    (λ l. omega (arith, pow-suc 10 k, length-large n l, digits-bound k (n / 10) (omega (arith, length-large n l))))
 
 -- a number of 64 bits has at most twenty
 pub digits-word : (n : ℕ) → n < 18446744073709551616 → length (digits n) ≤ 20

@@ -1,22 +1,23 @@
 -- Numbers in columns, written and read: a field is the number z exactly if its bytes are z right-justified, in any number of columns.
-use mathlib.Core.Path.{_≡_, refl, sym, ap, subst, _∙_}
+use mathlib.Core.Path.{_≡_, refl, sym, ap, _∙_}
 use mathlib.Core.Bool.{Bool, true, false, cond}
 use mathlib.Core.List.{List, [], _∷_, _++_, append-nil}
-use Prim.Native.Nat.{ℕ, zero, suc, _+_, _-_, _*_, _^_, _≤_, _<_}
+use Prim.Native.Nat.{ℕ, zero, suc, _+_, _-_, _^_, _≤_, _<_}
+use native.Mathlib.Nat.{one-le-pow}
 use native.Mathlib.Omega.{arith}
 use borrow.Author.Tests.{le-leb, leb-true, ne-eqb}
-use lib.Dec.{eqb}
 use lib.IntN.{ℤ, pos, negsuc, negℤ, natAbs}
 use lib.Signed.{_≤ℤ_, _<ℤ_}
 use lib.ListN.{length, length-append, length-replicate}
-use Rattle.numbers.proofs.Parts.{ints}
+use Rattle.numbers.proofs.Parts.{ints, posPart, negPart}
 use Rattle.numbers.proofs.Tests.{by-test, is-true}
 use Rattle.columns.specs.declared.reader.Field.{Field}
 use Rattle.columns.specs.declared.reader.Field.the-variants.{Number, Bad}
 use Rattle.columns.specs.Decimals.{blanks, digits, decimal, fitsIn, pad, same, valueOf, hasMinus, candidate, fieldOf}
 use Rattle.columns.specs.Parser.{isDigit, allDigits}
-use Rattle.columns.proofs.Compare.{both, same-true, same-equal, same-differ}
-use Rattle.columns.proofs.Digits.{digit-range, all-digits, value-digits, digits-below, digits-some, first-digit}
+use Rattle.columns.proofs.Lists.{left-next, left-none}
+use Rattle.columns.proofs.Compare.{both, same-true, same-equal}
+use Rattle.columns.proofs.Digits.{digit-range, all-digits, value-digits, digits-below, digits-bound}
 
 -- ---- by sign
 
@@ -43,17 +44,11 @@ length-blanks k = length-replicate k 32
 
 pub blanks-next : (n i : ℕ) → i < n → blanks (n - i) ≡ 32 ∷ blanks (n - (i + 1))
 unfolding blanks
-blanks-next n i h = ap blanks (one n i h)
-  where
-    one : (n i : ℕ) → i < n → n - i ≡ suc (n - (i + 1))
-    one n i h = omega arith
+blanks-next n i h = ap blanks (left-next n i h)
 
 pub blanks-none : (n i : ℕ) → n ≤ i → blanks (n - i) ≡ []
 unfolding blanks
-blanks-none n i h = ap blanks (none n i h)
-  where
-    none : (n i : ℕ) → n ≤ i → n - i ≡ 0
-    none n i h = omega arith
+blanks-none n i h = ap blanks (left-none n i h)
 
 pub length-pad-of : (k : ℕ) (z : ℤ) → length (pad k z) ≡ (k - length (decimal z)) + length (decimal z)
 unfolding pad
@@ -64,15 +59,16 @@ pub length-pad : (k : ℕ) (z : ℤ) → fitsIn k z ≡ true → length (pad k z
 unfolding fitsIn
 length-pad k z f = omega (arith, leb-true (length (decimal z)) k f, length-pad-of k z)
 
--- a number below 10 ^ k fits k columns, and one column more with a minus
-pub fits-pos : (k n : ℕ) → 0 < k → n < 10 ^ k → fitsIn k (pos n) ≡ true
+-- what fits k + 1 columns: a number below 10 ^ (k + 1), and with a minus one down to −(10 ^ k − 1)
+pub fits-within : (k : ℕ) (z : ℤ) → 0 < k → posPart z < 10 ^ suc k → negPart z < 10 ^ k → fitsIn (suc k) z ≡ true
 unfolding fitsIn decimal
-fits-pos k n p h = le-leb (length (digits n)) k (digits-below k n p h)
+fits-within k (pos n) p h g = le-leb (length (digits n)) (suc k) (digits-below (suc k) n (omega arith) h)
+fits-within k (negsuc n) p h g = le-leb (suc (length (digits (suc n)))) (suc k) (omega (arith, digits-below k (suc n) p g))
 
-pub fits-abs : (k : ℕ) (z : ℤ) → 0 < k → natAbs z < 10 ^ k → fitsIn (k + 1) z ≡ true
+pub within-fits : (k : ℕ) (z : ℤ) → fitsIn (suc k) z ≡ true → (posPart z < 10 ^ suc k) × (negPart z < 10 ^ k)
 unfolding fitsIn decimal
-fits-abs k (pos n) p h = le-leb (length (digits n)) (k + 1) (omega (arith, digits-below k n p h))
-fits-abs k (negsuc n) p h = le-leb (suc (length (digits (suc n)))) (k + 1) (omega (arith, digits-below k (suc n) p h))
+within-fits k (pos n) h = (digits-bound (suc k) n (leb-true (length (digits n)) (suc k) h), omega (arith, one-le-pow k 10 (omega arith)))
+within-fits k (negsuc n) h = (omega (arith, one-le-pow (suc k) 10 (omega arith)), digits-bound k (suc n) (omega (arith, leb-true (suc (length (digits (suc n)))) (suc k) h)))
 
 -- ---- the candidate is the number that was written
 
@@ -109,6 +105,9 @@ candidate-pad k z = after-blanks (k - length (decimal z)) (decimal z) ∙ candid
 
 -- ---- a field is a number exactly if its bytes are that number's
 
+pub bad-number : {z : ℤ} → Bad ≡ Number z → ⊥
+bad-number e = let o : _≡_ {A = ℕ} 0 1 = cc in omega arith
+
 module _ (bs : List ℕ) where
   abbrev test : Bool
   test = same bs (pad (length bs) (candidate bs))
@@ -125,13 +124,10 @@ module _ (bs : List ℕ) where
   written-field z =
       by-test test (λ t. cond t (Number (candidate bs)) Bad ≡ Number z → bs ≡ pad (length bs) z)
       (λ t e. same-true bs (pad (length bs) (candidate bs)) (is-true t) ∙ ap (pad (length bs)) (inside (candidate bs) e))
-      (λ t e. absurd (never e))
+      (λ t e. absurd (bad-number e))
     where
       inside : (y : ℤ) → Number y ≡ Number z → y ≡ z
       inside y e = cc
-
-      never : Bad ≡ Number z → ⊥
-      never e = let o : _≡_ {A = ℕ} 0 1 = cc in omega arith
 
 -- reading undoes writing
 pub read-back : (k : ℕ) (z : ℤ) → fitsIn k z ≡ true → fieldOf (pad k z) ≡ Number z

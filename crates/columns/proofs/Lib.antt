@@ -9,3 +9,4 @@ pub mod Lines
 pub mod Records
 pub mod RoundTrip
 pub mod Texts
+pub mod Examples

@@ -2,20 +2,23 @@
 use mathlib.Core.Path.{_≡_, refl, sym, ap, _∙_}
 use mathlib.Core.Bool.{Bool, true, false, cond}
 use mathlib.Core.List.{List, [], _∷_, _++_}
-use Prim.Native.Nat.{ℕ, zero, suc, _+_, _-_, _*_, _≤_, _<_}
+use Prim.Native.Nat.{ℕ, zero, suc, _+_, _-_, _*_, _^_, _≤_, _<_}
 use native.Mathlib.Omega.{arith}
 use borrow.Author.Tests.{leb-true, le-leb, lt-leb}
 use lib.Dec.{leb}
-use lib.IntN.{ℤ, pos}
+use lib.IntN.{ℤ, pos, negℤ}
+use lib.Signed.{ltZ}
 use lib.ListN.{length, take, drop, getD, replicate, length-append, length-drop}
 use lib.Seq.{take-all, drop-append-le}
+use Rattle.numbers.proofs.Tests.{by-test, is-false}
+use Rattle.numbers.proofs.Parts.{ints, posPart, negPart, parts-abs, test-ge}
 use Rattle.columns.specs.Buffers.{putAt}
 use Rattle.columns.specs.Decimals.{blanks, fitsIn, pad}
-use Rattle.columns.specs.Lines.{lineEnd, lineWith, widthOf, fields, allFit, columnsOf, lineFits, tagLine}
-use Rattle.columns.proofs.Lists.{drop-next}
+use Rattle.columns.specs.Lines.{lineEnd, lineWith, widthOf, fields, allFit, columnsOf, lineFits, tagLine, isWide, heading, title}
+use Rattle.columns.proofs.Lists.{drop-next, left-next}
 use Rattle.columns.proofs.Compare.{both}
 use Rattle.columns.proofs.Put.{put-after}
-use Rattle.columns.proofs.Fields.{length-blanks, length-pad}
+use Rattle.columns.proofs.Fields.{length-blanks, length-pad, fits-within}
 
 -- ---- the columns of fields
 
@@ -57,6 +60,14 @@ length-fields wide (z ∷ zs) h =
     ∙ (λ i. length-pad (widthOf wide (length zs)) z (t .0) i + length-fields wide zs (t .1) i)
     ∙ sym (columns-next wide (length zs))
 
+-- a height fits its field: eight columns down to −9,999,999, sixteen below
+pub height-fits : (z : ℤ) → posPart z < 10 ^ 8 → negPart z < 10 ^ 15 → fitsIn (widthOf (isWide z) 0) z ≡ true
+unfolding widthOf isWide
+height-fits z h k =
+    by-test (ltZ z (negℤ (pos 9999999))) (λ t. fitsIn (cond t 16 8) z ≡ true)
+    (λ t. fits-within 15 z (omega arith) (omega arith) k)
+    (λ t. fits-within 7 z (omega arith) h (omega (ints, test-ge {a = z} {b = negℤ (pos 9999999)} (is-false t), parts-abs z)))
+
 -- ---- a turn of a loop over the numbers
 
 module _ (wide : Bool) (zs : List ℤ) (i : ℕ) (h : i < length zs) where
@@ -77,10 +88,7 @@ module _ (wide : Bool) (zs : List ℤ) (i : ℕ) (h : i < length zs) where
       ∙ ap (λ (k : ℕ). cond (fitsIn (widthOf wide k) (getD zs i (pos 0))) (allFit wide (drop (i + 1) zs)) false) (length-drop (i + 1) zs)
 
   pub columns-turn : columnsOf wide (length zs - i) ≡ widthAt + columnsOf wide (length zs - (i + 1))
-  columns-turn = ap (columnsOf wide) (one (length zs) i h) ∙ columns-next wide (length zs - (i + 1))
-    where
-      one : (n i : ℕ) → i < n → n - i ≡ suc (n - (i + 1))
-      one n i h = omega arith
+  columns-turn = ap (columnsOf wide) (left-next (length zs) i h) ∙ columns-next wide (length zs - (i + 1))
 
 -- ---- the end of a line
 
@@ -115,6 +123,15 @@ pub length-with : (s : List ℕ) → length s ≤ 83 → length (lineWith s) ≡
 unfolding lineWith
 length-with s h = length-append s (lineEnd (length s)) ∙ omega (arith, length-end (length s) h)
 
+pub length-heading : length heading ≡ 84
+unfolding heading
+length-heading = length-with _ (omega arith)
+
+pub length-title : length title ≡ 84
+unfolding title
+length-title = length-with _ (omega arith)
+
+-- what fits a line
 pub record FitsLine (tag : List ℕ) (zs : List ℤ) (wide : Bool) : Type 0 where
   pub room : length tag + columnsOf wide (length zs) ≤ 83
   pub each : allFit wide zs ≡ true
@@ -144,7 +161,7 @@ pub line-built :
     → FitsLine tag zs wide
     → at + 84 ≤ length d
     → putAt (putAt (putAt d at tag) (at + length tag) (fields wide zs)) (at + (length tag + columnsOf wide (length zs))) (lineEnd (length tag + columnsOf wide (length zs)))
-      ≡ putAt d at (lineWith (tag ++ fields wide zs))
+    ≡ putAt d at (lineWith (tag ++ fields wide zs))
 unfolding lineWith
 line-built d at tag zs wide f h =
     ap (λ (x : List ℕ). putAt x (at + (length tag + columnsOf wide (length zs))) (lineEnd (length tag + columnsOf wide (length zs)))) (put-after d at tag (fields wide zs) (omega arith))

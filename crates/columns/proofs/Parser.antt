@@ -1,7 +1,7 @@
 -- How a field is parsed: blanks, then a minus or none, then digits with no leading zero and no −0 are exactly the fields that are numbers.
 use mathlib.Core.Path.{_≡_, refl, sym, ap, subst, _∙_}
 use mathlib.Core.Bool.{Bool, true, false, cond}
-use mathlib.Core.List.{List, [], _∷_, _++_, append-nil}
+use mathlib.Core.List.{List, [], _∷_, _++_}
 use Prim.Native.Nat.{ℕ, zero, suc, _+_, _-_, _*_, _%_, _≤_, _<_}
 use native.Mathlib.Omega.{arith}
 use native.Mathlib.Numerals.{add-one}
@@ -15,11 +15,8 @@ use Rattle.columns.specs.declared.reader.Field.the-variants.{Number, Bad
 use Rattle.columns.specs.Decimals.{blanks, digits, digitsBy, decimal, pad, same, valueOf, hasMinus, candidate, fieldOf}
 use Rattle.columns.specs.Parser.{leadingBlanks, isDigit, allDigits, runOf, naturalOf, negated}
 use Rattle.columns.proofs.Compare.{both}
-use Rattle.columns.proofs.Digits.{First, first-digit, digits-small, digits-value, digit-range}
-use Rattle.columns.proofs.Fields.{digits-only, length-blanks, length-pad-of, field-written, written-field, field-is}
-
-bad-number : {z : ℤ} → Bad ≡ Number z → ⊥
-bad-number e = let o : _≡_ {A = ℕ} 0 1 = cc in omega arith
+use Rattle.columns.proofs.Digits.{first-digit, digits-small, digits-value, digit-range}
+use Rattle.columns.proofs.Fields.{digits-only, length-pad-of, bad-number, field-written, written-field, field-is}
 
 -- ---- the first byte of a number
 
@@ -78,11 +75,11 @@ after-first : (b : ℕ) (bs : List ℕ) → AfterBlanks bs (leadingBlanks bs) �
 after-first b bs a =
     by-test (eqb b 32) (λ t. AfterBlanks (b ∷ bs) (cond t (leadingBlanks bs + 1) 0))
     (λ t.
-        subst (AfterBlanks (b ∷ bs)) (sym (add-one (leadingBlanks bs)))
-        (record {
-          same-field = ap (λ (x : ℕ). fieldOf (x ∷ bs)) (eqb-true b 32 (is-true t)) ∙ field-blank bs ∙ a .same-field;
-          other = λ h. a .other (omega arith);
-        }))
+    subst (AfterBlanks (b ∷ bs)) (sym (add-one (leadingBlanks bs)))
+    (record {
+      same-field = ap (λ (x : ℕ). fieldOf (x ∷ bs)) (eqb-true b 32 (is-true t)) ∙ field-blank bs ∙ a .same-field;
+      other = λ h. a .other (omega arith);
+    }))
     (λ t. record { same-field = refl; other = λ h. eqb-false b 32 (is-false t) })
 
 pub after-blanks : (bs : List ℕ) → AfterBlanks bs (leadingBlanks bs)
@@ -105,8 +102,8 @@ field-digits z [] e = written-field [] z e ∙ ap (λ (j : ℕ). blanks j ++ dec
 field-digits z (b ∷ r) e =
     by-test (allDigits (b ∷ r)) (λ t. cond t (fieldOf (b ∷ r)) Bad ≡ Number z → b ∷ r ≡ decimal z)
     (λ t f.
-        let d = digit-range b (both (isDigit b) (allDigits r) (is-true t) .0) in
-        pad-exact (length (b ∷ r)) z b r (λ q. omega arith) (written-field (b ∷ r) z f))
+    let d = digit-range b (both (isDigit b) (allDigits r) (is-true t) .0) in
+    pad-exact (length (b ∷ r)) z b r (λ q. omega arith) (written-field (b ∷ r) z f))
     (λ t f. absurd (bad-number f)) e
 
 pub field-minus : (r : List ℕ) → fieldOf (45 ∷ r) ≡ negated (naturalOf r)
@@ -193,6 +190,6 @@ natural-more [] h k = absurd (omega arith)
 natural-more (b ∷ r) h k =
     run-is (b ∷ r)
     (λ h.
-        let t = both (isDigit b) (allDigits r) h in
-        let d = digit-range b (t .0) in
-        sym (digits-value (10 * 0 + (b - 48)) r (omega (arith, k)) (t .1) ∙ ap (λ (x : List ℕ). x ++ r) (digit-is b (t .0))))
+    let t = both (isDigit b) (allDigits r) h in
+    let d = digit-range b (t .0) in
+    sym (digits-value (10 * 0 + (b - 48)) r (omega (arith, k)) (t .1) ∙ ap (λ (x : List ℕ). x ++ r) (digit-is b (t .0))))

@@ -1,10 +1,10 @@
 -- Records read: a turn of the loop over a line's fields, and which lines are refused.
-use mathlib.Core.Path.{_≡_, refl, sym, ap, _∙_}
+use mathlib.Core.Path.{_≡_, refl, ap, _∙_}
 use mathlib.Core.Bool.{Bool, true, false, cond}
-use mathlib.Core.List.{List, [], _∷_, _++_}
-use Prim.Native.Nat.{ℕ, zero, suc, _+_, _-_, _*_, _≤_, _<_}
+use mathlib.Core.List.{List, [], _∷_}
+use Prim.Native.Nat.{ℕ, _+_, _-_, _*_, _≤_, _<_}
 use native.Mathlib.Omega.{arith}
-use lib.IntN.{ℤ, pos}
+use lib.IntN.{ℤ}
 use lib.Dec.{lit≤}
 use lib.ListN.{length, take, drop, length-drop}
 use lib.Seq.{drop-drop}
@@ -15,10 +15,10 @@ use Rattle.columns.specs.declared.reader.Tag.{Tag}
 use Rattle.columns.specs.declared.reader.Tag.the-variants.{Lin, Sta, Run, Drr, Drs, End}
 use Rattle.columns.specs.declared.reader.Kind.{Kind}
 use Rattle.columns.specs.declared.reader.Kind.the-variants.{Record, Refused}
-use Rattle.columns.specs.declared.reader.Line.{Line}
 use Rattle.columns.specs.Decimals.{same, fieldOf}
 use Rattle.columns.specs.Lines.{lineEnd}
 use Rattle.columns.specs.Records.{letters, fieldCount, tags, tagAmong, isNumber, numberOf, allNumbers, numbersIn, refusedLine, recordLine, numbersLine, recordIn, lineOfKind, lineIn}
+use Rattle.columns.proofs.Lists.{left-next, left-none}
 use Rattle.columns.proofs.Compare.{same-lengths}
 use Rattle.columns.proofs.Lines.{length-end}
 
@@ -26,9 +26,6 @@ module _ (l : List ℕ) (n i : ℕ) (h : i < n) where
   -- field i
   abbrev pub fieldAt : Field
   fieldAt = fieldOf (take 8 (drop (3 + 8 * i) l))
-
-  one : (n i : ℕ) → i < n → n - i ≡ suc (n - (i + 1))
-  one n i h = omega arith
 
   after : drop 8 (drop (3 + 8 * i) l) ≡ drop (3 + 8 * (i + 1)) l
   after = drop-drop 8 (3 + 8 * i) l ∙ ap (λ (k : ℕ). drop k l) (eight i)
@@ -39,7 +36,7 @@ module _ (l : List ℕ) (n i : ℕ) (h : i < n) where
   numbers-turn : (f : Field) → fieldAt ≡ f → allNumbers (n - i) (drop (3 + 8 * i) l) ≡ cond (isNumber f) (allNumbers (n - (i + 1)) (drop (3 + 8 * (i + 1)) l)) false
   unfolding allNumbers
   numbers-turn f e =
-      ap (λ (k : ℕ). allNumbers k (drop (3 + 8 * i) l)) (one n i h)
+      ap (λ (k : ℕ). allNumbers k (drop (3 + 8 * i) l)) (left-next n i h)
       ∙ (λ j. cond (isNumber (e j)) (allNumbers (n - (i + 1)) (after j)) false)
 
   pub numbers-next : (z : ℤ) → fieldAt ≡ Number z → allNumbers (n - i) (drop (3 + 8 * i) l) ≡ allNumbers (n - (i + 1)) (drop (3 + 8 * (i + 1)) l)
@@ -51,19 +48,16 @@ module _ (l : List ℕ) (n i : ℕ) (h : i < n) where
   pub values-next : (z : ℤ) → fieldAt ≡ Number z → numbersIn (n - i) (drop (3 + 8 * i) l) ≡ z ∷ numbersIn (n - (i + 1)) (drop (3 + 8 * (i + 1)) l)
   unfolding numbersIn
   values-next z e =
-      ap (λ (k : ℕ). numbersIn k (drop (3 + 8 * i) l)) (one n i h)
+      ap (λ (k : ℕ). numbersIn k (drop (3 + 8 * i) l)) (left-next n i h)
       ∙ (λ j. numberOf (e j) ∷ numbersIn (n - (i + 1)) (after j))
-
-none : (n i : ℕ) → n ≤ i → n - i ≡ 0
-none n i h = omega arith
 
 pub numbers-end : (n i : ℕ) (t : List ℕ) → n ≤ i → allNumbers (n - i) t ≡ true
 unfolding allNumbers
-numbers-end n i t h = ap (λ (k : ℕ). allNumbers k t) (none n i h)
+numbers-end n i t h = ap (λ (k : ℕ). allNumbers k t) (left-none n i h)
 
 pub values-end : (n i : ℕ) (t : List ℕ) → n ≤ i → numbersIn (n - i) t ≡ []
 unfolding numbersIn
-values-end n i t h = ap (λ (k : ℕ). numbersIn k t) (none n i h)
+values-end n i t h = ap (λ (k : ℕ). numbersIn k t) (left-none n i h)
 
 module _ (tag : Tag) (n : ℕ) (t : List ℕ) where
   pub line-refused : allNumbers n t ≡ false → numbersLine tag n t ≡ refusedLine 2

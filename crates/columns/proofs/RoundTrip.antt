@@ -2,11 +2,11 @@
 use mathlib.Core.Path.{_≡_, refl, sym, ap, subst, _∙_}
 use mathlib.Core.Bool.{Bool, true, false, cond}
 use mathlib.Core.List.{List, [], _∷_, _++_, append-assoc}
-use Prim.Native.Nat.{ℕ, zero, suc, _+_, _-_, _*_, _≤_, _<_}
+use Prim.Native.Nat.{ℕ, zero, suc, _+_, _*_, _≤_}
 use native.Mathlib.Omega.{arith}
-use lib.IntN.{ℤ, pos}
-use lib.ListN.{length, take, drop, length-append, length-take, length-drop, take-append-drop}
-use lib.Seq.{take-at, drop-at, take-add, take-append-seam, drop-drop}
+use lib.IntN.{ℤ}
+use lib.ListN.{length, take, drop, length-take, length-drop, take-append-drop}
+use lib.Seq.{take-at, drop-at, take-add, drop-drop}
 use Rattle.numbers.proofs.Tests.{by-test, is-true, not-both}
 use Rattle.columns.specs.declared.reader.Field.{Field}
 use Rattle.columns.specs.declared.reader.Field.the-variants.{Number, Bad}
@@ -17,11 +17,11 @@ use Rattle.columns.specs.declared.reader.Kind.the-variants.{Record, Refu
 use Rattle.columns.specs.declared.reader.Line.{Line}
 use Rattle.columns.specs.Buffers.{putAt}
 use Rattle.columns.specs.Decimals.{fitsIn, pad, same, fieldOf}
-use Rattle.columns.specs.Lines.{lineEnd, lineWith, widthOf, fields, allFit, columnsOf, lineFits, tagLine}
+use Rattle.columns.specs.Lines.{lineEnd, lineWith, widthOf, fields, allFit, lineFits, tagLine}
 use Rattle.columns.specs.Records.{letters, fieldCount, tags, tagAmong, isNumber, numberOf, allNumbers, numbersIn, zeros, refusedLine, recordLine, numbersLine, recordIn, lineOfKind, lineIn}
 use Rattle.columns.proofs.Compare.{both, same-true, same-equal}
 use Rattle.columns.proofs.Fields.{length-pad, read-back, written-field, number-fits}
-use Rattle.columns.proofs.Lines.{columns-narrow, length-fields, length-end, FitsLine, fits-line, fits-room, line-is}
+use Rattle.columns.proofs.Lines.{columns-narrow, length-end, fits-line, fits-room, line-is}
 use Rattle.columns.proofs.Records.{count-ten, record-shaped, line-taken}
 
 -- l is the record with tag t and numbers zs, written
@@ -185,13 +185,13 @@ module _ (l : List ℕ) (t : Tag) where
       let m : ℕ = 3 + 8 * n in
       by-test (same (drop m l) (lineEnd m)) (λ b. Result (cond b (numbersLine u n (drop 3 l)) (refusedLine 1)))
       (λ end.
-          by-test (allNumbers n (drop 3 l)) (λ b. Result (cond b (recordLine u (numbersIn n (drop 3 l))) (refusedLine 2)))
-          (λ h e.
-              let same-tag : u ≡ t = cc in
-              let w = line-parts u l front (same-true (drop m l) (lineEnd m) (is-true end)) (is-true h) in
-              subst (λ (x : Tag). Written x (take (fieldCount x) (putAt zeros 0 (numbersIn n (drop 3 l)))) l) same-tag
-              (subst (λ (x : List ℤ). Written u x l) (values-front n (numbersIn n (drop 3 l)) (w .count)) w))
-          (λ h e. absurd (refused-record e)))
+      by-test (allNumbers n (drop 3 l)) (λ b. Result (cond b (recordLine u (numbersIn n (drop 3 l))) (refusedLine 2)))
+      (λ h e.
+      let same-tag : u ≡ t = cc in
+      let w = line-parts u l front (same-true (drop m l) (lineEnd m) (is-true end)) (is-true h) in
+      subst (λ (x : Tag). Written x (take (fieldCount x) (putAt zeros 0 (numbersIn n (drop 3 l)))) l) same-tag
+      (subst (λ (x : List ℤ). Written u x l) (values-front n (numbersIn n (drop 3 l)) (w .count)) w))
+      (λ h e. absurd (refused-record e)))
       (λ end e. absurd (refused-record e))
 
   pub line-written : lineIn l .kind ≡ Record t → Written t (take (fieldCount t) (lineIn l .values)) l

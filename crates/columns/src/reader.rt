@@ -78,13 +78,7 @@ fn negate(f: Field) -> Field
     ensures { λ r. ⌜ r ≡ negated f ⌝ }
 {
     match f {
-        Field::Number(v) => {
-            if 0 < v {
-                Field::Number(-v)
-            } else {
-                Field::Bad
-            }
-        }
+        Field::Number(v) => { if 0 < v { Field::Number(-v) } else { Field::Bad } }
         Field::Bad => Field::Bad,
     }
 }

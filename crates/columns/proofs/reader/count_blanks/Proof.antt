@@ -1,6 +1,6 @@
 -- `count_blanks` meets its contract. The loop's invariant: i blanks are passed, and those left are the others.
-use mathlib.Core.Path.{_≡_, refl, sym, ap, subst, _∙_}
-use Prim.Native.Nat.{ℕ, _+_, _≤_, _-_}
+use mathlib.Core.Path.{_≡_}
+use Prim.Native.Nat.{_+_, _≤_, _-_}
 use lib.ListN.{length, drop}
 use Rattle.columns.specs.Parser.{leadingBlanks}
 use Rattle.columns.proofs.Runs.{blanks-more, blanks-stop, blanks-end}

@@ -1,5 +1,5 @@
 -- `ends_from` meets its contract.
-use mathlib.Core.Path.{_≡_, refl, sym, ap, _∙_}
+use mathlib.Core.Path.{_∙_}
 use Rattle.columns.specs.Decimals.{blanks, same}
 use Rattle.columns.specs.Lines.{lineEnd}
 use Rattle.columns.proofs.Lists.{part-rest}

@@ -1,6 +1,6 @@
 -- `find_tag` meets its contract: the tags are tried one after the other.
-use mathlib.Core.Path.{_≡_, refl, sym, ap, _∙_}
-use mathlib.Core.List.{List, [], _∷_}
+use mathlib.Core.Path.{_≡_, sym, _∙_}
+use mathlib.Core.List.{[], _∷_}
 use Rattle.columns.specs.declared.reader.Tag.the-variants.{Lin, Sta, Run, Drr, Drs, End}
 use Rattle.columns.specs.Records.{tags, tagAmong}
 use Rattle.columns.proofs.Records.{tag-here, tag-next}

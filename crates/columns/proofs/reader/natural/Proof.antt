@@ -1,6 +1,5 @@
 -- `natural` meets its contract: one digit, or digits that do not begin with 0.
-use mathlib.Core.Path.{_≡_, refl, sym, ap, _∙_}
-use Rattle.columns.specs.Parser.{naturalOf, runOf}
+use mathlib.Core.Path.{sym, _∙_}
 use Rattle.columns.proofs.Parser.{natural-empty, natural-zero, natural-one, natural-more}
 use borrow.Author.Needs.{needs}
 use native.Mathlib.Omega.{arith}

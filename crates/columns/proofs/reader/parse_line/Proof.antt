@@ -1,6 +1,5 @@
 -- `parse_line` meets its contract.
-use mathlib.Core.Path.{_≡_, refl, sym, ap, _∙_}
-use lib.ListN.{take}
+use mathlib.Core.Path.{sym, ap, _∙_}
 use Rattle.columns.specs.declared.reader.Kind.{Kind}
 use Rattle.columns.specs.Records.{lineOfKind, lineIn}
 use Rattle.columns.proofs.Records.{line-length}

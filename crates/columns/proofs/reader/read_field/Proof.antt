@@ -1,6 +1,6 @@
 -- `read_field` meets its contract: after the blanks, a minus and a number, or a number.
-use mathlib.Core.Path.{_≡_, refl, sym, ap, subst, _∙_}
-use mathlib.Core.List.{List, _∷_}
+use mathlib.Core.Path.{_≡_, sym, ap, subst, _∙_}
+use mathlib.Core.List.{_∷_}
 use Prim.Native.Nat.{ℕ, _+_, _<_}
 use lib.ListN.{length, drop, getD, drop-of-length-le}
 use Rattle.columns.specs.Decimals.{fieldOf}
@@ -20,7 +20,7 @@ first :
     (k : tie.After-count-blanks)
     → k .count-blanks .result < length (k .before .before .args .bs .now)
     → fieldOf (k .before .before .args .bs .now)
-      ≡ fieldOf (getD (k .before .before .args .bs .now) (k .count-blanks .result) 0 ∷ drop (k .count-blanks .result + 1) (k .before .before .args .bs .now))
+    ≡ fieldOf (getD (k .before .before .args .bs .now) (k .count-blanks .result) 0 ∷ drop (k .count-blanks .result + 1) (k .before .before .args .bs .now))
 first k h = after k .same-field ∙ ap fieldOf (drop-next (k .before .before .args .bs .now) (k .count-blanks .result) 0 h)
 
 count-blanks-requires : tie.Need-count-blanks-requires

@@ -1,21 +1,20 @@
 -- `read_numbers` meets its contract. The loop's invariant: all fields are numbers exactly if those left are, and with these the values are all numbers.
-use mathlib.Core.Path.{_≡_, refl, sym, ap, subst, _∙_}
-use mathlib.Core.List.{List, [], _∷_}
+use mathlib.Core.Path.{_≡_, refl, sym, ap, _∙_}
+use mathlib.Core.List.{List}
 use Prim.Native.Nat.{ℕ, _+_, _-_, _*_, _≤_}
 use native.Mathlib.Nat.{sub-zero}
-use lib.IntN.{ℤ, pos}
+use lib.IntN.{ℤ}
 use lib.ListN.{length, take, drop, set, length-set, length-take}
 use mir.Syntax.{w64}
 use mir.Val.{SFits}
 use Rattle.numbers.proofs.Machine.{stored-id}
-use Rattle.columns.specs.declared.reader.Field.{Field}
-use Rattle.columns.specs.declared.reader.Field.the-variants.{Number, Bad}
+use Rattle.columns.specs.declared.reader.Field.the-variants.{Number}
 use Rattle.columns.specs.declared.reader.Tag.{Tag}
 use Rattle.columns.specs.declared.reader.Kind.the-variants.{Record}
 use Rattle.columns.specs.declared.reader.Line.{Line}
 use Rattle.columns.specs.Buffers.{putAt}
 use Rattle.columns.specs.Decimals.{fieldOf}
-use Rattle.columns.specs.Records.{zeros, allNumbers, numbersIn, numbersLine}
+use Rattle.columns.specs.Records.{zeros, allNumbers, numbersIn}
 use Rattle.columns.proofs.Put.{put-none, put-cons}
 use Rattle.columns.proofs.Records.{fieldAt, numbers-next, numbers-stop, numbers-end, values-next, values-end, line-refused, line-taken}
 use borrow.Author.Needs.{needs}
@@ -97,7 +96,7 @@ returns c =
     let a = l .before .before .args in
     c .refused .ensures
     ∙ sym (line-refused (a .tag) (a .n) (drop 3 (a .line .now))
-      (l .loop .inv .2 ∙ numbers-stop (a .line .now) (a .n) (l .loop .i) (omega arith) (sym (read f) ∙ c .before .enum-told .given .1)))
+    (l .loop .inv .2 ∙ numbers-stop (a .line .now) (a .n) (l .loop .i) (omega arith) (sym (read f) ∙ c .before .enum-told .given .1)))
 
 mul-values : tie.Need-mul-values Inv-loop μ-loop
 mul-values c = omega (arith, c .before .before .before .before .before .before .before .before .pre)
@@ -136,9 +135,9 @@ returns-2 c =
     let a = l .before .before .args in
     let t = drop (3 + 8 * l .loop .i) (a .line .now) in
     let v : l .loop .values ≡ putAt zeros 0 (numbersIn (a .n) (drop 3 (a .line .now))) =
-        sym (put-none (l .loop .values) (l .loop .i))
-        ∙ ap (putAt (l .loop .values) (l .loop .i)) (sym (values-end (a .n) (l .loop .i) t (omega arith)))
-        ∙ l .loop .inv .3
+    sym (put-none (l .loop .values) (l .loop .i))
+    ∙ ap (putAt (l .loop .values) (l .loop .i)) (sym (values-end (a .n) (l .loop .i) t (omega arith)))
+    ∙ l .loop .inv .3
     in
     ap (made (a .tag)) v
     ∙ sym (line-taken (a .tag) (a .n) (drop 3 (a .line .now)) (l .loop .inv .2 ∙ numbers-end (a .n) (l .loop .i) t (omega arith)))

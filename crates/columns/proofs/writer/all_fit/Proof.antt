@@ -1,9 +1,9 @@
 -- `all_fit` meets its contract. The loop's invariant: all numbers fit exactly if those left do.
-use mathlib.Core.Path.{_≡_, refl, sym, ap, subst, _∙_}
-use mathlib.Core.Bool.{Bool, true, false, cond}
-use Prim.Native.Nat.{ℕ, _+_, _-_, _≤_}
+use mathlib.Core.Path.{_≡_, refl, sym, ap, _∙_}
+use mathlib.Core.Bool.{Bool, false, cond}
+use Prim.Native.Nat.{_+_, _-_, _≤_}
 use borrow.Author.Tests.{not-true, not-false}
-use lib.IntN.{ℤ, pos}
+use lib.IntN.{pos}
 use lib.ListN.{length, drop, getD, drop-of-length-le}
 use mir.Syntax.{w64}
 use mir.Val.{SFits}
@@ -25,8 +25,8 @@ abbrev μ-loop : tie.MeasureT-loop
 tested :
     (f : tie.After-fits2 Inv-loop μ-loop)
     → f .fits2 .result
-      ≡ fitsIn (widthOf (f .before .before .before .before .before .args .wide) (length (f .before .before .before .before .before .args .numbers .now) - (f .before .before .before .before .loop .i + 1)))
-        (getD (f .before .before .before .before .before .args .numbers .now) (f .before .before .before .before .loop .i) (pos 0))
+    ≡ fitsIn (widthOf (f .before .before .before .before .before .args .wide) (length (f .before .before .before .before .before .args .numbers .now) - (f .before .before .before .before .loop .i + 1)))
+    (getD (f .before .before .before .before .before .args .numbers .now) (f .before .before .before .before .loop .i) (pos 0))
 tested f =
     let w = f .before in
     let l = w .before .before .before in
@@ -61,7 +61,7 @@ returns c =
     let l = f .before .before .before .before in
     let a = l .before .args in
     sym (l .loop .inv .1 ∙ fit-turn (a .wide) (a .numbers .now) (l .loop .i) (omega arith)
-      ∙ ap (λ (t : Bool). cond t (allFit (a .wide) (drop (l .loop .i + 1) (a .numbers .now))) false) (sym (tested f) ∙ not-true (f .fits2 .result) (c .if1 .taken)))
+    ∙ ap (λ (t : Bool). cond t (allFit (a .wide) (drop (l .loop .i + 1) (a .numbers .now))) false) (sym (tested f) ∙ not-true (f .fits2 .result) (c .if1 .taken)))
 
 loop-less : tie.Need-loop-less Inv-loop μ-loop
 loop-less c = omega arith

@@ -1,5 +1,5 @@
 -- `columns_of` meets its contract.
-use mathlib.Core.Path.{_≡_, refl, sym, ap, _∙_}
+use mathlib.Core.Path.{sym, ap, _∙_}
 use mathlib.Core.Bool.{Bool}
 use Rattle.columns.specs.Lines.{columnsOf}
 use Rattle.columns.proofs.Lines.{columns-wide, columns-narrow}

@@ -1,5 +1,5 @@
 -- `is_wide` meets its contract.
-use mathlib.Core.Path.{_≡_, ap}
+use mathlib.Core.Path.{ap}
 use lib.IntN.{ℤ, negsuc}
 use lib.Signed.{ltZ}
 use Rattle.numbers.proofs.Machine.{stored-id}

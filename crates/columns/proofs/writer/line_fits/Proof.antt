@@ -1,8 +1,6 @@
 -- `line_fits` meets its contract: the columns are counted before each number is looked at.
-use mathlib.Core.Path.{_≡_, refl, sym, ap, subst, _∙_}
-use Prim.Native.Nat.{ℕ, _+_, _*_, _≤_}
+use mathlib.Core.Path.{sym, _∙_}
 use lib.ListN.{length}
-use Rattle.columns.specs.Lines.{columnsOf}
 use Rattle.columns.proofs.Lines.{columns-range, fits-not, fits-room}
 use borrow.Author.Needs.{needs}
 use native.Mathlib.Omega.{arith}

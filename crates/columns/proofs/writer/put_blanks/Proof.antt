@@ -1,6 +1,5 @@
 -- `put_blanks` meets its contract. The loop's invariant: with the blanks that are left to write, all are written.
 use mathlib.Core.Path.{_≡_, refl, sym, ap, _∙_}
-use mathlib.Core.List.{List}
 use Prim.Native.Nat.{ℕ, _+_, _-_, _≤_}
 use native.Mathlib.Nat.{add-zero, add-assoc, sub-zero}
 use lib.ListN.{length, set, length-set}

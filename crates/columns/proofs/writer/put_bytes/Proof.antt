@@ -1,6 +1,5 @@
 -- `put_bytes` meets its contract. The loop's invariant: with what is left of s to write, all of s is written.
 use mathlib.Core.Path.{_≡_, refl, sym, ap, _∙_}
-use mathlib.Core.List.{List}
 use Prim.Native.Nat.{ℕ, _+_, _-_, _≤_}
 use native.Mathlib.Nat.{add-zero}
 use lib.ListN.{length, drop, length-set, drop-of-length-le}

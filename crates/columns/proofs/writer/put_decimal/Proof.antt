@@ -1,5 +1,5 @@
 -- `put_decimal` meets its contract: the digits, and a minus right before them.
-use mathlib.Core.Path.{_≡_, refl, sym, ap, subst, _∙_}
+use mathlib.Core.Path.{_≡_, sym, ap, _∙_}
 use mathlib.Core.List.{List, _∷_}
 use Prim.Native.Nat.{ℕ, _+_, _-_, _≤_}
 use lib.IntN.{pos, natAbs}
@@ -21,9 +21,9 @@ magnitude-is c = c .magnitude .ensures ∙ ap natAbs (stored-id (c .before .befo
 known :
     (p : tie.After-put-digits)
     → (length (decimal (p .before .before .before .before .args .x)) ≤ p .before .before .before .before .args .end)
-      × (p .before .before .before .before .args .end ≤ length (p .before .before .before .before .args .buf .now))
-      × (length (p .put-digits .last .0) ≡ length (p .before .before .before .before .args .buf .now))
-      × (p .put-digits .result + length (digits (p .before .magnitude .result)) ≡ p .before .before .before .before .args .end)
+    × (p .before .before .before .before .args .end ≤ length (p .before .before .before .before .args .buf .now))
+    × (length (p .put-digits .last .0) ≡ length (p .before .before .before .before .args .buf .now))
+    × (p .put-digits .result + length (digits (p .before .magnitude .result)) ≡ p .before .before .before .before .args .end)
 known p = let s = p .before .before .before .before in (s .pre .0, s .pre .1, p .put-digits .kept .0, p .put-digits .ensures .0)
 
 minus : (c : tie.Then1) → decimal (c .before .before .before .before .before .before .before .args .x) ≡ 45 ∷ digits (c .before .before .before .before .magnitude .result)

@@ -1,8 +1,7 @@
 -- `put_digits` meets its contract. The loop's invariant: with the digits that are left to write, all are written.
 use mathlib.Core.Path.{_≡_, refl, sym, ap, _∙_}
-use mathlib.Core.List.{List, [], _∷_, _++_}
 use Prim.Native.Nat.{ℕ, _+_, _-_, _/_, _%_, _≤_, _<_}
-use lib.ListN.{length, set, length-set}
+use lib.ListN.{length, length-set}
 use Rattle.columns.specs.Buffers.{putAt}
 use Rattle.columns.specs.Decimals.{digits}
 use Rattle.columns.proofs.Digits.{digits-some, digits-small, digits-large, length-large}

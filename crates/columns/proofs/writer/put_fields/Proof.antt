@@ -1,6 +1,6 @@
 -- `put_fields` meets its contract. The loop's invariant: the numbers left fit, and with their fields all are written.
 use mathlib.Core.Path.{_≡_, refl, sym, ap, subst, _∙_}
-use mathlib.Core.List.{List, _++_}
+use mathlib.Core.List.{List}
 use mathlib.Core.Bool.{Bool, true}
 use Prim.Native.Nat.{ℕ, _+_, _-_, _≤_, _<_}
 use native.Mathlib.Nat.{sub-zero}
@@ -60,7 +60,7 @@ turn w =
 fits-stored :
     (w : tie.After-width-of Inv-loop μ-loop)
     → fitsIn (w .width-of .result) (stored (getD (w .before .before .before .before .before .args .numbers .now) (w .before .before .before .loop .i) (pos 0)))
-      ≡ fitsIn (widthOf (w .before .before .before .before .before .args .wide) (length (w .before .before .before .before .before .args .numbers .now) - (w .before .before .before .loop .i + 1))) (getD (w .before .before .before .before .before .args .numbers .now) (w .before .before .before .loop .i) (pos 0))
+    ≡ fitsIn (widthOf (w .before .before .before .before .before .args .wide) (length (w .before .before .before .before .before .args .numbers .now) - (w .before .before .before .loop .i + 1))) (getD (w .before .before .before .before .before .args .numbers .now) (w .before .before .before .loop .i) (pos 0))
 fits-stored w = λ j. fitsIn (w .width-of .ensures j) (stored-id (fit w) j)
 
 loop-holds : tie.Need-loop-holds Inv-loop μ-loop

@@ -1,11 +1,10 @@
 -- `put_line` meets its contract: a line that does not fit, or for which there is no room, is not written.
-use mathlib.Core.Path.{_≡_, refl, sym, ap, subst, _∙_}
-use mathlib.Core.Bool.{true, false}
-use mathlib.Core.List.{List, _++_}
+use mathlib.Core.Path.{_≡_, sym, ap, _∙_}
+use mathlib.Core.Bool.{true}
 use borrow.Author.Tests.{not-true, not-false}
 use lib.ListN.{length}
 use Rattle.columns.specs.Buffers.{putAt, placed}
-use Rattle.columns.specs.Lines.{lineFits, lineWith, fields, tagLine}
+use Rattle.columns.specs.Lines.{lineFits, tagLine}
 use Rattle.columns.proofs.Put.{placed-room, placed-none, placed-empty}
 use Rattle.columns.proofs.Lines.{line-is, line-none, length-line}
 use borrow.Author.Needs.{needs}

@@ -1,7 +1,5 @@
 -- `width_of` meets its contract.
-use mathlib.Core.Path.{_≡_, refl, sym, ap, _∙_}
-use mathlib.Core.Bool.{Bool, cond}
-use Prim.Native.Nat.{ℕ}
+use mathlib.Core.Path.{sym}
 use Rattle.columns.specs.Lines.{widthOf}
 use Rattle.columns.proofs.Lines.{width-before}
 use Rattle.columns.proofs.writer.width_of.Statement.{statement}

@@ -1,12 +1,12 @@
 -- `write_line` meets its contract: the tag, the fields and the end of the line, one after the other.
-use mathlib.Core.Path.{_≡_, refl, sym, ap, subst, _∙_}
-use mathlib.Core.List.{List, _++_}
+use mathlib.Core.Path.{ap, _∙_}
+use mathlib.Core.List.{List}
 use Prim.Native.Nat.{ℕ, _+_, _-_, _≤_}
 use lib.ListN.{length, take, drop, length-take, length-drop}
 use Rattle.columns.specs.Buffers.{putAt}
 use Rattle.columns.specs.Decimals.{blanks}
-use Rattle.columns.specs.Lines.{lineEnd, fields, columnsOf}
-use Rattle.columns.proofs.Lines.{FitsLine, fits-line, columns-range, end-part, length-end, line-built}
+use Rattle.columns.specs.Lines.{lineEnd, fields}
+use Rattle.columns.proofs.Lines.{FitsLine, fits-line, columns-range, end-part, line-built}
 use borrow.Author.Needs.{needs}
 use native.Mathlib.Omega.{arith}
 use Rattle.columns.proofs.writer.write_line.Statement.{statement}
