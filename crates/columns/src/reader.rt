@@ -30,6 +30,7 @@ pub enum Kind {
     Refused(u64),
 }
 
+// A line, with its numbers; the places past them, and all places of a refused line, are 0.
 pub struct Line {
     pub kind: Kind,
     pub values: [i64; 10],
@@ -97,7 +98,7 @@ fn count_blanks(bs: &[u8]) -> usize
     i
 }
 
-// The number that stands in a field's bytes.
+// The number that stands in a field: each byte is read once.
 fn read_field(bs: &[u8]) -> Field
     requires { ⌜ length (now bs) ≤ 18 ⌝ }
     ensures { λ r. ⌜ r ≡ fieldOf (now (bs .entry)) ⌝ }
@@ -113,6 +114,7 @@ fn read_field(bs: &[u8]) -> Field
     natural(&bs[first..])
 }
 
+// A line refused with this number of document 01.
 fn refused(number: u64) -> Line
     ensures { λ r. ⌜ r ≡ refusedLine number ⌝ }
 {
@@ -145,6 +147,7 @@ fn read_numbers(line: &[u8], tag: Tag, n: usize) -> Line
     }
 }
 
+// How many numbers follow a tag.
 fn field_count(tag: Tag) -> usize
     ensures { λ r. ⌜ r ≡ fieldCount tag ⌝ }
 {

@@ -1,10 +1,10 @@
 -- `same_bytes` meets its contract. The loop's invariant: what is left of the two is equal exactly if the two are.
 use mathlib.Core.Path.{_≡_, refl, sym, _∙_}
 use Prim.Native.Nat.{_≤_, _-_}
+use native.Mathlib.Omega.{arith}
 use lib.ListN.{length, drop}
 use Rattle.columns.specs.Decimals.{same}
 use Rattle.columns.proofs.Compare.{same-lengths, same-next, same-stop, same-end}
-use native.Mathlib.Omega.{arith}
 use Rattle.columns.proofs.bytes.same_bytes.Statement.{statement}
 use Rattle.columns.proofs.bytes.same_bytes.Tie as tie
 

@@ -1,10 +1,10 @@
 -- `count_blanks` meets its contract. The loop's invariant: i blanks are passed, and those left are the others.
 use mathlib.Core.Path.{_≡_}
 use Prim.Native.Nat.{_+_, _≤_, _-_}
+use native.Mathlib.Omega.{arith}
 use lib.ListN.{length, drop}
 use Rattle.columns.specs.Parser.{leadingBlanks}
 use Rattle.columns.proofs.Runs.{blanks-more, blanks-stop, blanks-end}
-use native.Mathlib.Omega.{arith}
 use Rattle.columns.proofs.reader.count_blanks.Statement.{statement}
 use Rattle.columns.proofs.reader.count_blanks.Tie as tie
 

@@ -3,13 +3,13 @@ use mathlib.Core.Path.{_≡_, refl, sym, ap, _∙_}
 use Prim.Native.Nat.{ℕ, _+_, _-_, _*_, _^_, _≤_, _<_}
 use native.Mathlib.Nat.{pow-suc, pow-le-pow-right}
 use native.Mathlib.Numerals.{add-one}
+use native.Mathlib.Omega.{arith}
 use lib.ListN.{length, drop}
 use Rattle.numbers.proofs.Machine.{abs-fits, cast-nat}
 use Rattle.columns.specs.declared.reader.Field.the-variants.{Number}
 use Rattle.columns.specs.Decimals.{valueOf}
 use Rattle.columns.specs.Parser.{allDigits}
 use Rattle.columns.proofs.Runs.{all-next, all-low, all-high, value-next, run-bad, run-number}
-use native.Mathlib.Omega.{arith}
 use Rattle.columns.proofs.reader.digit_run.Statement.{statement}
 use Rattle.columns.proofs.reader.digit_run.Tie as tie
 

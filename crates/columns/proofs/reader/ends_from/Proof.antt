@@ -1,11 +1,11 @@
 -- `ends_from` meets its contract.
 use mathlib.Core.Path.{_∙_}
+use native.Mathlib.Omega.{arith}
+use borrow.Author.Needs.{needs}
 use Rattle.columns.specs.Decimals.{blanks, same}
 use Rattle.columns.specs.Lines.{lineEnd}
 use Rattle.columns.proofs.Lists.{part-rest}
 use Rattle.columns.proofs.Lines.{end-part}
-use borrow.Author.Needs.{needs}
-use native.Mathlib.Omega.{arith}
 use Rattle.columns.proofs.reader.ends_from.Statement.{statement}
 use Rattle.columns.proofs.reader.ends_from.Tie as tie
 

@@ -1,7 +1,7 @@
 -- `is_heading` meets its contract.
+use borrow.Author.Needs.{needs}
 use Rattle.columns.specs.Decimals.{blanks}
 use Rattle.columns.specs.Lines.{lineEnd, lineWith, heading}
-use borrow.Author.Needs.{needs}
 use Rattle.columns.proofs.reader.is_heading.Statement.{statement}
 use Rattle.columns.proofs.reader.is_heading.Tie as tie
 

@@ -1,8 +1,8 @@
 -- `natural` meets its contract: one digit, or digits that do not begin with 0.
 use mathlib.Core.Path.{sym, _∙_}
-use Rattle.columns.proofs.Parser.{natural-empty, natural-zero, natural-one, natural-more}
-use borrow.Author.Needs.{needs}
 use native.Mathlib.Omega.{arith}
+use borrow.Author.Needs.{needs}
+use Rattle.columns.proofs.Parser.{natural-empty, natural-zero, natural-one, natural-more}
 use Rattle.columns.proofs.reader.natural.Statement.{statement}
 use Rattle.columns.proofs.reader.natural.Tie as tie
 

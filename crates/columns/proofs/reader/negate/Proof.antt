@@ -1,5 +1,6 @@
 -- `negate` meets its contract: only a number above 0 has one with a minus.
 use mathlib.Core.Path.{_≡_, sym, ap, _∙_}
+use borrow.Author.Needs.{needs}
 use lib.IntN.{ℤ, pos, _-ℤ_}
 use lib.Signed.{_<ℤ_}
 use mir.Syntax.{w64}
@@ -8,7 +9,6 @@ use Rattle.numbers.proofs.Machine.{stored, stored-id, stored-as, literal-as, su
 use Rattle.columns.specs.declared.reader.Field.the-variants.{Number}
 use Rattle.columns.specs.Parser.{negated}
 use Rattle.columns.proofs.Runs.{minus-above, minus-none, minus-fits}
-use borrow.Author.Needs.{needs}
 use Rattle.columns.proofs.reader.negate.Statement.{statement}
 use Rattle.columns.proofs.reader.negate.Tie as tie
 

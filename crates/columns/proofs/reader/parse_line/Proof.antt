@@ -1,9 +1,9 @@
 -- `parse_line` meets its contract.
 use mathlib.Core.Path.{sym, ap, _∙_}
+use borrow.Author.Needs.{needs}
 use Rattle.columns.specs.declared.reader.Kind.{Kind}
 use Rattle.columns.specs.Records.{lineOfKind, lineIn}
 use Rattle.columns.proofs.Records.{line-length}
-use borrow.Author.Needs.{needs}
 use Rattle.columns.proofs.reader.parse_line.Statement.{statement}
 use Rattle.columns.proofs.reader.parse_line.Tie as tie
 

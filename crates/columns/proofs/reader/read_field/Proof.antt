@@ -2,13 +2,13 @@
 use mathlib.Core.Path.{_≡_, sym, ap, subst, _∙_}
 use mathlib.Core.List.{_∷_}
 use Prim.Native.Nat.{ℕ, _+_, _<_}
+use native.Mathlib.Omega.{arith}
+use borrow.Author.Needs.{needs}
 use lib.ListN.{length, drop, getD, drop-of-length-le}
 use Rattle.columns.specs.Decimals.{fieldOf}
 use Rattle.columns.specs.Parser.{naturalOf, negated}
 use Rattle.columns.proofs.Lists.{drop-next, part-rest}
 use Rattle.columns.proofs.Parser.{AfterBlanks, after-blanks, field-empty, field-minus, field-other}
-use borrow.Author.Needs.{needs}
-use native.Mathlib.Omega.{arith}
 use Rattle.columns.proofs.reader.read_field.Statement.{statement}
 use Rattle.columns.proofs.reader.read_field.Tie as tie
 

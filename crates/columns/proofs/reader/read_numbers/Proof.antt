@@ -3,6 +3,8 @@ use mathlib.Core.Path.{_≡_, refl, sym, ap, _∙_}
 use mathlib.Core.List.{List}
 use Prim.Native.Nat.{ℕ, _+_, _-_, _*_, _≤_}
 use native.Mathlib.Nat.{sub-zero}
+use native.Mathlib.Omega.{arith}
+use borrow.Author.Needs.{needs}
 use lib.IntN.{ℤ}
 use lib.ListN.{length, take, drop, set, length-set, length-take}
 use mir.Syntax.{w64}
@@ -17,8 +19,6 @@ use Rattle.columns.specs.Decimals.{fieldOf}
 use Rattle.columns.specs.Records.{zeros, allNumbers, numbersIn}
 use Rattle.columns.proofs.Put.{put-none, put-cons}
 use Rattle.columns.proofs.Records.{fieldAt, numbers-next, numbers-stop, numbers-end, values-next, values-end, line-refused, line-taken}
-use borrow.Author.Needs.{needs}
-use native.Mathlib.Omega.{arith}
 use Rattle.columns.proofs.reader.read_numbers.Statement.{statement}
 use Rattle.columns.proofs.reader.read_numbers.Tie as tie
 

@@ -1,20 +1,21 @@
 -- `read_record` meets its contract: the end of the line is looked at before its fields.
 use mathlib.Core.Path.{_≡_, sym, ap, _∙_}
 use Prim.Native.Nat.{ℕ, _+_, _*_}
+use native.Mathlib.Omega.{arith}
+use borrow.Author.Needs.{needs}
 use lib.ListN.{drop}
 use Rattle.columns.specs.Decimals.{same}
 use Rattle.columns.specs.Lines.{lineEnd}
 use Rattle.columns.specs.Records.{fieldCount, numbersLine}
 use Rattle.columns.proofs.Records.{count-ten, record-bad, record-shaped}
-use borrow.Author.Needs.{needs}
-use native.Mathlib.Omega.{arith}
 use Rattle.columns.proofs.reader.read_record.Statement.{statement}
 use Rattle.columns.proofs.reader.read_record.Tie as tie
 
-ended :
-    (e : tie.After-ends-from)
-    → e .ends-from .result
-    ≡ same (drop (3 + 8 * fieldCount (e .before .before .before .args .tag)) (e .before .before .before .args .line .now)) (lineEnd (3 + 8 * fieldCount (e .before .before .before .args .tag)))
+-- where the fields of the line end
+abbrev from : tie.After-ends-from → ℕ
+from e = 3 + 8 * fieldCount (e .before .before .before .args .tag)
+
+ended : (e : tie.After-ends-from) → e .ends-from .result ≡ same (drop (from e) (e .before .before .before .args .line .now)) (lineEnd (from e))
 ended e =
     e .ends-from .ensures
     ∙ ap (λ (n : ℕ). same (drop (3 + 8 * n) (e .before .before .before .args .line .now)) (lineEnd (3 + 8 * n))) (e .before .field-count .ensures)

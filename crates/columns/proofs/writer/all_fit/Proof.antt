@@ -1,17 +1,16 @@
 -- `all_fit` meets its contract. The loop's invariant: all numbers fit exactly if those left do.
 use mathlib.Core.Path.{_≡_, refl, sym, ap, _∙_}
 use mathlib.Core.Bool.{Bool, false, cond}
-use Prim.Native.Nat.{_+_, _-_, _≤_}
+use mathlib.Core.List.{List}
+use Prim.Native.Nat.{ℕ, _+_, _-_, _≤_}
+use native.Mathlib.Omega.{arith}
 use borrow.Author.Tests.{not-true, not-false}
-use lib.IntN.{pos}
+use lib.IntN.{ℤ, pos}
 use lib.ListN.{length, drop, getD, drop-of-length-le}
-use mir.Syntax.{w64}
-use mir.Val.{SFits}
-use Rattle.numbers.proofs.Machine.{stored-id}
+use Rattle.numbers.proofs.Machine.{stored, stored-id}
 use Rattle.columns.specs.Decimals.{fitsIn}
 use Rattle.columns.specs.Lines.{widthOf, allFit}
 use Rattle.columns.proofs.Lines.{fit-turn}
-use native.Mathlib.Omega.{arith}
 use Rattle.columns.proofs.writer.all_fit.Statement.{statement}
 use Rattle.columns.proofs.writer.all_fit.Tie as tie
 
@@ -21,18 +20,26 @@ Inv-loop numbers wide i₀ i = (i ≤ length numbers) × (allFit wide numbers �
 abbrev μ-loop : tie.MeasureT-loop
 μ-loop numbers wide i₀ i = length numbers - i
 
--- the test of number i
-tested :
-    (f : tie.After-fits2 Inv-loop μ-loop)
-    → f .fits2 .result
-    ≡ fitsIn (widthOf (f .before .before .before .before .before .args .wide) (length (f .before .before .before .before .before .args .numbers .now) - (f .before .before .before .before .loop .i + 1)))
-    (getD (f .before .before .before .before .before .args .numbers .now) (f .before .before .before .before .loop .i) (pos 0))
+-- number i and its width
+abbrev numbers : tie.After-fits2 Inv-loop μ-loop → List ℤ
+numbers f = f .before .before .before .before .before .args .numbers .now
+
+abbrev wide : tie.After-fits2 Inv-loop μ-loop → Bool
+wide f = f .before .before .before .before .before .args .wide
+
+abbrev index : tie.After-fits2 Inv-loop μ-loop → ℕ
+index f = f .before .before .before .before .loop .i
+
+-- all fit exactly if number i and those after it do
+tested : (f : tie.After-fits2 Inv-loop μ-loop) → allFit (wide f) (numbers f) ≡ cond (f .fits2 .result) (allFit (wide f) (drop (index f + 1) (numbers f))) false
 tested f =
     let w = f .before in
-    let l = w .before .before .before in
-    let z = getD (l .before .args .numbers .now) (l .loop .i) (pos 0) in
-    let fit : SFits w64 z = record { sfits = w .before .x .given } in
-    f .fits2 .ensures ∙ (λ j. fitsIn (w .width-of .ensures j) (stored-id fit j))
+    let z = getD (numbers f) (index f) (pos 0) in
+    let s : stored z ≡ z = stored-id (record { sfits = w .before .x .given }) in
+    let r : f .fits2 .result ≡ fitsIn (widthOf (wide f) (length (numbers f) - (index f + 1))) z = f .fits2 .ensures ∙ (λ j. fitsIn (w .width-of .ensures j) (s j)) in
+    f .before .before .before .before .loop .inv .1
+    ∙ fit-turn (wide f) (numbers f) (index f) (omega arith)
+    ∙ ap (λ (t : Bool). cond t (allFit (wide f) (drop (index f + 1) (numbers f))) false) (sym r)
 
 loop-holds : tie.Need-loop-holds Inv-loop μ-loop
 loop-holds c = (omega arith, refl)
@@ -58,10 +65,7 @@ fits-requires c κs = tt
 returns : tie.Need-returns Inv-loop μ-loop
 returns c =
     let f = c .before in
-    let l = f .before .before .before .before in
-    let a = l .before .args in
-    sym (l .loop .inv .1 ∙ fit-turn (a .wide) (a .numbers .now) (l .loop .i) (omega arith)
-    ∙ ap (λ (t : Bool). cond t (allFit (a .wide) (drop (l .loop .i + 1) (a .numbers .now))) false) (sym (tested f) ∙ not-true (f .fits2 .result) (c .if1 .taken)))
+    sym (tested f ∙ ap (λ (t : Bool). cond t (allFit (wide f) (drop (index f + 1) (numbers f))) false) (not-true (f .fits2 .result) (c .if1 .taken)))
 
 loop-less : tie.Need-loop-less Inv-loop μ-loop
 loop-less c = omega arith
@@ -69,13 +73,7 @@ loop-less c = omega arith
 loop-again : tie.Need-loop-again Inv-loop μ-loop
 loop-again c =
     let f = c .before in
-    let l = f .before .before .before .before in
-    let a = l .before .args in (
-      omega arith,
-      l .loop .inv .1
-          ∙ fit-turn (a .wide) (a .numbers .now) (l .loop .i) (omega arith)
-          ∙ ap (λ (t : Bool). cond t (allFit (a .wide) (drop (l .loop .i + 1) (a .numbers .now))) false) (sym (tested f) ∙ not-false (f .fits2 .result) (c .if1 .left)),
-    )
+    (omega arith, tested f ∙ ap (λ (t : Bool). cond t (allFit (wide f) (drop (index f + 1) (numbers f))) false) (not-false (f .fits2 .result) (c .if1 .left)))
 
 returns-2 : tie.Need-returns-2 Inv-loop μ-loop
 unfolding allFit

@@ -1,9 +1,9 @@
 -- `columns_of` meets its contract.
 use mathlib.Core.Path.{sym, ap, _∙_}
 use mathlib.Core.Bool.{Bool}
+use borrow.Author.Needs.{needs}
 use Rattle.columns.specs.Lines.{columnsOf}
 use Rattle.columns.proofs.Lines.{columns-wide, columns-narrow}
-use borrow.Author.Needs.{needs}
 use Rattle.columns.proofs.writer.columns_of.Statement.{statement}
 use Rattle.columns.proofs.writer.columns_of.Tie as tie
 

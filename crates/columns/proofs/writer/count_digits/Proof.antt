@@ -1,10 +1,10 @@
 -- `count_digits` meets its contract. The loop's invariant: k counts the digits cut off, and one more.
 use mathlib.Core.Path.{_≡_, ap}
 use Prim.Native.Nat.{_+_, _≤_}
+use native.Mathlib.Omega.{arith}
 use lib.ListN.{length}
 use Rattle.columns.specs.Decimals.{digits}
 use Rattle.columns.proofs.Digits.{length-large, digits-small, digits-word}
-use native.Mathlib.Omega.{arith}
 use Rattle.columns.proofs.writer.count_digits.Statement.{statement}
 use Rattle.columns.proofs.writer.count_digits.Tie as tie
 

@@ -2,13 +2,13 @@
 use mathlib.Core.Path.{_≡_, sym, ap, _∙_}
 use mathlib.Core.List.{List}
 use Prim.Native.Nat.{ℕ}
+use borrow.Author.Needs.{needs}
 use lib.Dec.{leb, ltb}
 use lib.IntN.{pos, natAbs}
 use lib.ListN.{length}
 use Rattle.numbers.proofs.Machine.{stored-id, literal-as, branch-lt, branch-ge}
 use Rattle.columns.specs.Decimals.{digits, fitsIn}
 use Rattle.columns.proofs.Fields.{decimal-minus, decimal-plain}
-use borrow.Author.Needs.{needs}
 use Rattle.columns.proofs.writer.fits.Statement.{statement}
 use Rattle.columns.proofs.writer.fits.Tie as tie
 

@@ -1,9 +1,9 @@
 -- `line_fits` meets its contract: the columns are counted before each number is looked at.
 use mathlib.Core.Path.{sym, _∙_}
+use native.Mathlib.Omega.{arith}
+use borrow.Author.Needs.{needs}
 use lib.ListN.{length}
 use Rattle.columns.proofs.Lines.{columns-range, fits-not, fits-room}
-use borrow.Author.Needs.{needs}
-use native.Mathlib.Omega.{arith}
 use Rattle.columns.proofs.writer.line_fits.Statement.{statement}
 use Rattle.columns.proofs.writer.line_fits.Tie as tie
 

@@ -2,12 +2,12 @@
 use mathlib.Core.Path.{_≡_, refl, sym, ap, _∙_}
 use Prim.Native.Nat.{ℕ, _+_, _-_, _≤_}
 use native.Mathlib.Nat.{add-zero, add-assoc, sub-zero}
+use native.Mathlib.Omega.{arith}
 use lib.ListN.{length, set, length-set}
 use Rattle.columns.specs.Buffers.{putAt}
 use Rattle.columns.specs.Decimals.{blanks}
 use Rattle.columns.proofs.Put.{put-none, put-cons}
 use Rattle.columns.proofs.Fields.{blanks-none, blanks-next}
-use native.Mathlib.Omega.{arith}
 use Rattle.columns.proofs.writer.put_blanks.Statement.{statement}
 use Rattle.columns.proofs.writer.put_blanks.Tie as tie
 

@@ -2,10 +2,10 @@
 use mathlib.Core.Path.{_≡_, refl, sym, ap, _∙_}
 use Prim.Native.Nat.{ℕ, _+_, _-_, _≤_}
 use native.Mathlib.Nat.{add-zero}
+use native.Mathlib.Omega.{arith}
 use lib.ListN.{length, drop, length-set, drop-of-length-le}
 use Rattle.columns.specs.Buffers.{putAt}
 use Rattle.columns.proofs.Put.{put-none, put-next}
-use native.Mathlib.Omega.{arith}
 use Rattle.columns.proofs.writer.put_bytes.Statement.{statement}
 use Rattle.columns.proofs.writer.put_bytes.Tie as tie
 

@@ -2,6 +2,8 @@
 use mathlib.Core.Path.{_≡_, sym, ap, _∙_}
 use mathlib.Core.List.{List, _∷_}
 use Prim.Native.Nat.{ℕ, _+_, _-_, _≤_}
+use native.Mathlib.Omega.{arith}
+use borrow.Author.Needs.{needs}
 use lib.IntN.{pos, natAbs}
 use lib.ListN.{length, set}
 use Rattle.numbers.proofs.Machine.{stored-id, literal-as, branch-lt, branch-ge}
@@ -9,8 +11,6 @@ use Rattle.columns.specs.Buffers.{putAt}
 use Rattle.columns.specs.Decimals.{digits, decimal}
 use Rattle.columns.proofs.Put.{put-head}
 use Rattle.columns.proofs.Fields.{decimal-minus, decimal-plain, digits-decimal}
-use borrow.Author.Needs.{needs}
-use native.Mathlib.Omega.{arith}
 use Rattle.columns.proofs.writer.put_decimal.Statement.{statement}
 use Rattle.columns.proofs.writer.put_decimal.Tie as tie
 

@@ -1,12 +1,12 @@
 -- `put_digits` meets its contract. The loop's invariant: with the digits that are left to write, all are written.
 use mathlib.Core.Path.{_≡_, refl, sym, ap, _∙_}
 use Prim.Native.Nat.{ℕ, _+_, _-_, _/_, _%_, _≤_, _<_}
+use native.Mathlib.Omega.{arith}
 use lib.ListN.{length, length-set}
 use Rattle.columns.specs.Buffers.{putAt}
 use Rattle.columns.specs.Decimals.{digits}
 use Rattle.columns.proofs.Digits.{digits-some, digits-small, digits-large, length-large}
 use Rattle.columns.proofs.Put.{set-put, put-snoc}
-use native.Mathlib.Omega.{arith}
 use Rattle.columns.proofs.writer.put_digits.Statement.{statement}
 use Rattle.columns.proofs.writer.put_digits.Tie as tie
 

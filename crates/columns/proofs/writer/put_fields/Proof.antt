@@ -2,12 +2,11 @@
 use mathlib.Core.Path.{_≡_, refl, sym, ap, subst, _∙_}
 use mathlib.Core.List.{List}
 use mathlib.Core.Bool.{Bool, true}
-use Prim.Native.Nat.{ℕ, _+_, _-_, _≤_, _<_}
+use Prim.Native.Nat.{ℕ, _+_, _-_, _≤_}
 use native.Mathlib.Nat.{sub-zero}
+use native.Mathlib.Omega.{arith}
 use lib.IntN.{ℤ, pos}
 use lib.ListN.{length, drop, getD, drop-of-length-le}
-use mir.Syntax.{w64}
-use mir.Val.{SFits}
 use Rattle.numbers.proofs.Machine.{stored, stored-id}
 use Rattle.columns.specs.Buffers.{putAt}
 use Rattle.columns.specs.Decimals.{fitsIn, pad}
@@ -16,7 +15,6 @@ use Rattle.columns.proofs.Compare.{both}
 use Rattle.columns.proofs.Put.{put-none, put-after}
 use Rattle.columns.proofs.Fields.{length-pad}
 use Rattle.columns.proofs.Lines.{fields-turn, fit-turn, columns-turn}
-use native.Mathlib.Omega.{arith}
 use Rattle.columns.proofs.writer.put_fields.Statement.{statement}
 use Rattle.columns.proofs.writer.put_fields.Tie as tie
 
@@ -31,37 +29,39 @@ Inv-loop buf₀ at numbers wide next₀ i₀ buf next i =
 abbrev μ-loop : tie.MeasureT-loop
 μ-loop buf₀ at numbers wide next₀ i₀ buf next i = length numbers - i
 
--- what is known of number i
-fit : (w : tie.After-width-of Inv-loop μ-loop) → SFits w64 (getD (w .before .before .before .before .before .args .numbers .now) (w .before .before .before .loop .i) (pos 0))
-fit w = record { sfits = w .before .x .given }
+-- number i, its width, and where it goes
+abbrev numbers : tie.After-width-of Inv-loop μ-loop → List ℤ
+numbers w = w .before .before .before .before .before .args .numbers .now
 
-record Turn (numbers : List ℤ) (wide : Bool) (size next i k : ℕ) : Type 0 where
-  width : k ≡ widthOf wide (length numbers - (i + 1))
-  fit : fitsIn (widthOf wide (length numbers - (i + 1))) (getD numbers i (pos 0)) ≡ true
-  more : allFit wide (drop (i + 1) numbers) ≡ true
-  room : next + (widthOf wide (length numbers - (i + 1)) + columnsOf wide (length numbers - (i + 1))) ≤ size
+abbrev wide : tie.After-width-of Inv-loop μ-loop → Bool
+wide w = w .before .before .before .before .before .args .wide
 
-turn :
+abbrev index : tie.After-width-of Inv-loop μ-loop → ℕ
+index w = w .before .before .before .loop .i
+
+abbrev number : tie.After-width-of Inv-loop μ-loop → ℤ
+number w = getD (numbers w) (index w) (pos 0)
+
+abbrev width : tie.After-width-of Inv-loop μ-loop → ℕ
+width w = widthOf (wide w) (length (numbers w) - (index w + 1))
+
+stored-number : (w : tie.After-width-of Inv-loop μ-loop) → stored (number w) ≡ number w
+stored-number w = stored-id (record { sfits = w .before .x .given })
+
+-- it fits, and so do those after it
+fit : (w : tie.After-width-of Inv-loop μ-loop) → (fitsIn (width w) (number w) ≡ true) × (allFit (wide w) (drop (index w + 1) (numbers w)) ≡ true)
+fit w =
+    both (fitsIn (width w) (number w)) (allFit (wide w) (drop (index w + 1) (numbers w)))
+    (sym (fit-turn (wide w) (numbers w) (index w) (omega arith)) ∙ w .before .before .before .loop .inv .2)
+
+-- there is room for its field and the others
+room :
     (w : tie.After-width-of Inv-loop μ-loop)
-    → Turn (w .before .before .before .before .before .args .numbers .now) (w .before .before .before .before .before .args .wide) (length (w .before .before .before .before .before .args .buf .now)) (w .before .before .before .loop .next) (w .before .before .before .loop .i) (w .width-of .result)
-turn w =
+    → w .before .before .before .loop .next + (width w + columnsOf (wide w) (length (numbers w) - (index w + 1)))
+    ≤ length (w .before .before .before .before .before .args .buf .now)
+room w =
     let l = w .before .before .before in
-    let a = l .before .before .args in
-    let i = l .loop .i in
-    let h : i < length (a .numbers .now) = omega arith in
-    let b = both (fitsIn (widthOf (a .wide) (length (a .numbers .now) - (i + 1))) (getD (a .numbers .now) i (pos 0))) (allFit (a .wide) (drop (i + 1) (a .numbers .now))) (sym (fit-turn (a .wide) (a .numbers .now) i h) ∙ l .loop .inv .2) in
-    record {
-      width = w .width-of .ensures;
-      fit = b .0;
-      more = b .1;
-      room = subst (λ (k : ℕ). l .loop .next + k ≤ length (a .buf .now)) (columns-turn (a .wide) (a .numbers .now) i h) (l .loop .inv .3);
-    }
-
-fits-stored :
-    (w : tie.After-width-of Inv-loop μ-loop)
-    → fitsIn (w .width-of .result) (stored (getD (w .before .before .before .before .before .args .numbers .now) (w .before .before .before .loop .i) (pos 0)))
-    ≡ fitsIn (widthOf (w .before .before .before .before .before .args .wide) (length (w .before .before .before .before .before .args .numbers .now) - (w .before .before .before .loop .i + 1))) (getD (w .before .before .before .before .before .args .numbers .now) (w .before .before .before .loop .i) (pos 0))
-fits-stored w = λ j. fitsIn (w .width-of .ensures j) (stored-id (fit w) j)
+    subst (λ (k : ℕ). l .loop .next + k ≤ length (l .before .before .args .buf .now)) (columns-turn (wide w) (numbers w) (index w) (omega arith)) (l .loop .inv .3)
 
 loop-holds : tie.Need-loop-holds Inv-loop μ-loop
 loop-holds c =
@@ -86,13 +86,13 @@ width-of-requires c κs = tt
 
 put-number-requires : tie.Need-put-number-requires Inv-loop μ-loop
 put-number-requires c κs =
-    let t = turn (c .before) in (
-      fits-stored (c .before) ∙ t .fit,
-      omega (arith, t .room, t .width, c .before .before .before .before .loop .inv .1),
+    let w = c .before in (
+      (λ j. fitsIn (w .width-of .ensures j) (stored-number w j)) ∙ fit w .0,
+      omega (arith, room w, w .width-of .ensures, w .before .before .before .loop .inv .1),
     )
 
 add-next : tie.Need-add-next Inv-loop μ-loop
-add-next c = let t = turn (c .before .before .before .before) in omega (arith, t .room, t .width)
+add-next c = let w = c .before .before .before .before in omega (arith, room w, w .width-of .ensures)
 
 loop-less : tie.Need-loop-less Inv-loop μ-loop
 loop-less c = omega arith
@@ -102,22 +102,17 @@ loop-again c =
     let p = c .before .before in
     let w = p .before .before in
     let l = w .before .before .before in
-    let a = l .before .before .args in
-    let i = l .loop .i in
-    let z = getD (a .numbers .now) i (pos 0) in
-    let t = turn w in
-    let k = widthOf (a .wide) (length (a .numbers .now) - (i + 1)) in
-    let rest = fields (a .wide) (drop (i + 1) (a .numbers .now)) in
-    let n : length (pad k z) ≡ k = length-pad k z (t .fit) in (
+    let rest = fields (wide w) (drop (index w + 1) (numbers w)) in
+    let n : length (pad (width w) (number w)) ≡ width w = length-pad (width w) (number w) (fit w .0) in (
       omega arith,
       p .put-number .kept .0 ∙ l .loop .inv .1,
-      t .more,
-      omega (arith, t .room, t .width),
+      fit w .1,
+      omega (arith, room w, w .width-of .ensures),
       ap (λ (d : List ℕ). putAt d (l .loop .next + w .width-of .result) rest) (p .put-number .ensures)
-          ∙ (λ j. putAt (putAt (l .loop .buf) (l .loop .next) (pad (t .width j) (stored-id (fit w) j))) (l .loop .next + t .width j) rest)
-          ∙ ap (λ (m : ℕ). putAt (putAt (l .loop .buf) (l .loop .next) (pad k z)) (l .loop .next + m) rest) (sym n)
-          ∙ put-after (l .loop .buf) (l .loop .next) (pad k z) rest (omega (arith, t .room))
-          ∙ ap (putAt (l .loop .buf) (l .loop .next)) (sym (fields-turn (a .wide) (a .numbers .now) i (omega arith)))
+          ∙ (λ j. putAt (putAt (l .loop .buf) (l .loop .next) (pad (w .width-of .ensures j) (stored-number w j))) (l .loop .next + w .width-of .ensures j) rest)
+          ∙ ap (λ (m : ℕ). putAt (putAt (l .loop .buf) (l .loop .next) (pad (width w) (number w))) (l .loop .next + m) rest) (sym n)
+          ∙ put-after (l .loop .buf) (l .loop .next) (pad (width w) (number w)) rest (omega (arith, room w))
+          ∙ ap (putAt (l .loop .buf) (l .loop .next)) (sym (fields-turn (wide w) (numbers w) (index w) (omega arith)))
           ∙ l .loop .inv .4,
     )
 

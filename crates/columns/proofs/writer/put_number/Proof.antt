@@ -2,7 +2,9 @@
 use mathlib.Core.Path.{_≡_, sym, ap, _∙_}
 use mathlib.Core.List.{List}
 use Prim.Native.Nat.{ℕ, _+_, _-_, _≤_}
+use native.Mathlib.Omega.{arith}
 use borrow.Author.Tests.{leb-true}
+use borrow.Author.Needs.{needs}
 use lib.IntN.{ℤ}
 use lib.ListN.{length}
 use Rattle.numbers.proofs.Machine.{stored-id}
@@ -10,8 +12,6 @@ use Rattle.columns.specs.Buffers.{putAt}
 use Rattle.columns.specs.Decimals.{blanks, decimal, fitsIn, pad}
 use Rattle.columns.proofs.Put.{put-before}
 use Rattle.columns.proofs.Fields.{length-blanks}
-use borrow.Author.Needs.{needs}
-use native.Mathlib.Omega.{arith}
 use Rattle.columns.proofs.writer.put_number.Statement.{statement}
 use Rattle.columns.proofs.writer.put_number.Tie as tie
 

@@ -1,6 +1,6 @@
 -- `put_title` meets its contract: a line of a title and no numbers.
-use Rattle.columns.specs.Lines.{fields, allFit, columnsOf, lineFits, tagLine, title}
 use borrow.Author.Needs.{needs}
+use Rattle.columns.specs.Lines.{fields, allFit, columnsOf, lineFits, tagLine, title}
 use Rattle.columns.proofs.writer.put_title.Statement.{statement}
 use Rattle.columns.proofs.writer.put_title.Tie as tie
 

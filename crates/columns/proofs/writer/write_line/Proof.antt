@@ -1,14 +1,14 @@
 -- `write_line` meets its contract: the tag, the fields and the end of the line, one after the other.
-use mathlib.Core.Path.{ap, _∙_}
+use mathlib.Core.Path.{_≡_, ap, _∙_}
 use mathlib.Core.List.{List}
 use Prim.Native.Nat.{ℕ, _+_, _-_, _≤_}
-use lib.ListN.{length, take, drop, length-take, length-drop}
+use native.Mathlib.Omega.{arith}
+use borrow.Author.Needs.{needs}
+use lib.ListN.{length, drop, length-take, length-drop}
 use Rattle.columns.specs.Buffers.{putAt}
 use Rattle.columns.specs.Decimals.{blanks}
 use Rattle.columns.specs.Lines.{lineEnd, fields}
 use Rattle.columns.proofs.Lines.{FitsLine, fits-line, columns-range, end-part, line-built}
-use borrow.Author.Needs.{needs}
-use native.Mathlib.Omega.{arith}
 use Rattle.columns.proofs.writer.write_line.Statement.{statement}
 use Rattle.columns.proofs.writer.write_line.Tie as tie
 
@@ -78,11 +78,13 @@ returns c =
     let k = p .before .before in
     let s = k .before .before .before in
     let a = s .args in
-    let u = length (a .tag .now) + k .columns-of .result in
+    let n = length (a .tag .now) in
+    let F = fields (a .wide) (a .numbers .now) in
+    let d = putAt (putAt (a .buf .now) (a .at) (a .tag .now)) (a .at + n) F in
+    let e : f .put-fields .last .0 ≡ d = f .put-fields .ensures ∙ ap (λ (x : List ℕ). putAt x (a .at + n) F) (p .put-bytes .ensures) in
     q .put-bytes2 .ensures
-    ∙ ap (λ (d : List ℕ). putAt d (a .at + u) (take (84 - u) (drop u (lineEnd 0)))) (f .put-fields .ensures ∙ ap (λ (d : List ℕ). putAt d (a .at + length (a .tag .now)) (fields (a .wide) (a .numbers .now))) (p .put-bytes .ensures))
-    ∙ ap (putAt (putAt (putAt (a .buf .now) (a .at) (a .tag .now)) (a .at + length (a .tag .now)) (fields (a .wide) (a .numbers .now))) (a .at + u)) (end-part u (omega (arith, used k)))
-    ∙ ap (λ (n : ℕ). putAt (putAt (putAt (a .buf .now) (a .at) (a .tag .now)) (a .at + length (a .tag .now)) (fields (a .wide) (a .numbers .now))) (a .at + (length (a .tag .now) + n)) (lineEnd (length (a .tag .now) + n))) (k .columns-of .ensures)
+    ∙ (λ j. putAt (e j) (a .at + (n + k .columns-of .result)) (end-part (n + k .columns-of .result) (omega (arith, used k)) j))
+    ∙ ap (λ (m : ℕ). putAt d (a .at + (n + m)) (lineEnd (n + m))) (k .columns-of .ensures)
     ∙ line-built (a .buf .now) (a .at) (a .tag .now) (a .numbers .now) (a .wide) (fit s) (s .pre .1)
 
 pub write-line-spec : {M : Type 1} → statement M
