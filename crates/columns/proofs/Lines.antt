@@ -60,6 +60,10 @@ length-fields wide (z ∷ zs) h =
     ∙ (λ i. length-pad (widthOf wide (length zs)) z (t .0) i + length-fields wide zs (t .1) i)
     ∙ sym (columns-next wide (length zs))
 
+pub fit-cons : (wide : Bool) (z : ℤ) (zs : List ℤ) → fitsIn (widthOf wide (length zs)) z ≡ true → allFit wide zs ≡ true → allFit wide (z ∷ zs) ≡ true
+unfolding allFit
+fit-cons wide z zs e f = ap (λ (t : Bool). cond t (allFit wide zs) false) e ∙ f
+
 -- a height fits its field: eight columns down to −9,999,999, sixteen below
 pub height-fits : (z : ℤ) → posPart z < 10 ^ 8 → negPart z < 10 ^ 15 → fitsIn (widthOf (isWide z) 0) z ≡ true
 unfolding widthOf isWide
