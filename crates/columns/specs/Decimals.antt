@@ -10,6 +10,7 @@ use Rattle.columns.specs.declared.reader.Field.the-variants.{Number, Bad
 
 -- ---- written
 
+-- k blanks
 unfoldable pub blanks : ℕ → List ℕ
 blanks k = replicate k 32
 
@@ -50,6 +51,7 @@ unfoldable pub valueOf : ℕ → List ℕ → ℕ
 valueOf n [] = n
 valueOf n (b ∷ bs) = valueOf (10 * n + (b - 48)) bs
 
+-- whether a minus is among the bytes
 unfoldable pub hasMinus : List ℕ → Bool
 hasMinus [] = false
 hasMinus (b ∷ bs) = cond (eqb b 45) true (hasMinus bs)

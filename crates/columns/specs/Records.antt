@@ -68,10 +68,11 @@ numbersIn (suc n) t = numberOf (fieldOf (take 8 t)) ∷ numbersIn n (drop 8 t)
 abbrev pub zeros : List ℤ
 zeros = replicate 10 (pos 0)
 
+-- a line refused with document 01's number k
 abbrev pub refusedLine : ℕ → Line
 refusedLine k = record { kind = Refused k; values = zeros }
 
--- the places of `values` past the tag's numbers are 0
+-- a record with the tag t and the numbers zs; the places past them are 0
 abbrev pub recordLine : Tag → List ℤ → Line
 recordLine t zs = record { kind = Record t; values = putAt zeros 0 zs }
 
@@ -90,5 +91,6 @@ abbrev pub lineOfKind : Kind → List ℕ → Line
 lineOfKind (Record t) l = recordIn t l
 lineOfKind (Refused k) l = refusedLine k
 
+-- a line of the text book
 unfoldable pub lineIn : List ℕ → Line
 lineIn l = lineOfKind (tagAmong tags (take 3 l)) l
