@@ -1,0 +1,13 @@
+-- What other crates cite: Put (blocks in a buffer), Fields, RoundTrip and Texts (reading and writing undo each other), Lines and Records. The others serve these.
+pub mod Lists
+pub mod Compare
+pub mod Digits
+pub mod Put
+pub mod Fields
+pub mod Parser
+pub mod Runs
+pub mod Lines
+pub mod Records
+pub mod RoundTrip
+pub mod Texts
+pub mod Examples

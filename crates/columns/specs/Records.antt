@@ -1,0 +1,96 @@
+-- What a line of the text book is: a record's tag with its numbers, or refused, by refusals 1 and 2 of document 01.
+use mathlib.Core.Bool.{Bool, true, false, cond}
+use mathlib.Core.List.{List, [], _∷_}
+use Prim.Native.Nat.{ℕ, zero, suc, _+_, _*_}
+use lib.IntN.{ℤ, pos}
+use lib.ListN.{take, drop, replicate}
+use Rattle.columns.specs.declared.reader.Field.{Field}
+use Rattle.columns.specs.declared.reader.Field.the-variants.{Number, Bad}
+use Rattle.columns.specs.declared.reader.Tag.{Tag}
+use Rattle.columns.specs.declared.reader.Tag.the-variants.{Lin, Sta, Run, Drr, Drs, End}
+use Rattle.columns.specs.declared.reader.Kind.{Kind}
+use Rattle.columns.specs.declared.reader.Kind.the-variants.{Record, Refused}
+use Rattle.columns.specs.declared.reader.Line.{Line}
+use Rattle.columns.specs.Buffers.{putAt}
+use Rattle.columns.specs.Decimals.{same, fieldOf}
+use Rattle.columns.specs.Lines.{lineEnd}
+
+-- ---- tags
+
+-- "LIN", "STA", "RUN", "DRR", "DRS", "END"
+abbrev pub letters : Tag → List ℕ
+letters Lin = 76 ∷ 73 ∷ 78 ∷ []
+letters Sta = 83 ∷ 84 ∷ 65 ∷ []
+letters Run = 82 ∷ 85 ∷ 78 ∷ []
+letters Drr = 68 ∷ 82 ∷ 82 ∷ []
+letters Drs = 68 ∷ 82 ∷ 83 ∷ []
+letters End = 69 ∷ 78 ∷ 68 ∷ []
+
+-- how many numbers follow a tag
+abbrev pub fieldCount : Tag → ℕ
+fieldCount Lin = 4
+fieldCount Sta = 10
+fieldCount Run = 1
+fieldCount Drr = 0
+fieldCount Drs = 0
+fieldCount End = 2
+
+abbrev pub tags : List Tag
+tags = Lin ∷ Sta ∷ Run ∷ Drr ∷ Drs ∷ End ∷ []
+
+-- the first of these tags with the letters w; any other letters are refused with 1
+unfoldable pub tagAmong : List Tag → List ℕ → Kind
+tagAmong [] w = Refused 1
+tagAmong (t ∷ ts) w = cond (same w (letters t)) (Record t) (tagAmong ts w)
+
+-- ---- fields
+
+abbrev pub isNumber : Field → Bool
+isNumber (Number z) = true
+isNumber Bad = false
+
+abbrev pub numberOf : Field → ℤ
+numberOf (Number z) = z
+numberOf Bad = pos 0
+
+-- whether the n fields of eight columns at the start of t are numbers
+unfoldable pub allNumbers : ℕ → List ℕ → Bool
+allNumbers zero t = true
+allNumbers (suc n) t = cond (isNumber (fieldOf (take 8 t))) (allNumbers n (drop 8 t)) false
+
+-- and these numbers
+unfoldable pub numbersIn : ℕ → List ℕ → List ℤ
+numbersIn zero t = []
+numbersIn (suc n) t = numberOf (fieldOf (take 8 t)) ∷ numbersIn n (drop 8 t)
+
+-- ---- lines
+
+abbrev pub zeros : List ℤ
+zeros = replicate 10 (pos 0)
+
+-- a line refused with document 01's number k
+abbrev pub refusedLine : ℕ → Line
+refusedLine k = record { kind = Refused k; values = zeros }
+
+-- a record with the tag t and the numbers zs; the places past them are 0
+abbrev pub recordLine : Tag → List ℤ → Line
+recordLine t zs = record { kind = Record t; values = putAt zeros 0 zs }
+
+-- the tag with the numbers of the n fields at the start of t; refused with 2 where a field is not a number
+unfoldable pub numbersLine : Tag → ℕ → List ℕ → Line
+numbersLine tag n t = cond (allNumbers n t) (recordLine tag (numbersIn n t)) (refusedLine 2)
+
+-- a line of a known tag, refused with 1 where anything but blanks up to column 83 and a line feed follows its last field: so a line has 84 bytes
+unfoldable pub recordIn : Tag → List ℕ → Line
+recordIn t l =
+    let n : ℕ = fieldCount t in
+    let from : ℕ = 3 + 8 * n in
+    cond (same (drop from l) (lineEnd from)) (numbersLine t n (drop 3 l)) (refusedLine 1)
+
+abbrev pub lineOfKind : Kind → List ℕ → Line
+lineOfKind (Record t) l = recordIn t l
+lineOfKind (Refused k) l = refusedLine k
+
+-- a line of the text book
+unfoldable pub lineIn : List ℕ → Line
+lineIn l = lineOfKind (tagAmong tags (take 3 l)) l

@@ -1,0 +1,234 @@
+// Lines of the text book, read.
+ghost use mathlib.Core.Path.{_≡_};
+ghost use Prim.Native.Nat.{_+_, _*_, _≤_};
+ghost use lib.ListN.{length, drop};
+ghost use Rattle.columns.specs.Decimals.{same, fieldOf};
+ghost use Rattle.columns.specs.Parser.{leadingBlanks, runOf, naturalOf, negated};
+ghost use Rattle.columns.specs.Lines.{lineEnd, heading};
+ghost use Rattle.columns.specs.Records.{tags, tagAmong, fieldCount, numbersLine, refusedLine, recordIn, lineIn};
+use super::bytes::same_bytes;
+
+// A field of a line.
+pub enum Field {
+    Number(i64),
+    Bad,
+}
+
+// The tags of the text book's records.
+pub enum Tag {
+    Lin,
+    Sta,
+    Run,
+    Drr,
+    Drs,
+    End,
+}
+
+// What a line is: a record with this tag, or refused with this number of document 01.
+pub enum Kind {
+    Record(Tag),
+    Refused(u64),
+}
+
+// A line, with its numbers; the places past them, and all places of a refused line, are 0.
+pub struct Line {
+    pub kind: Kind,
+    pub values: [i64; 10],
+}
+
+// The number of a run of digits. Eighteen digits fit an i64.
+fn digit_run(bs: &[u8]) -> Field
+    requires { ⌜ length (now bs) ≤ 18 ⌝ }
+    ensures { λ r. ⌜ r ≡ runOf (now (bs .entry)) ⌝ }
+{
+    let mut n: u64 = 0;
+    let mut i = 0;
+    while i < bs.len() {
+        let b = bs[i];
+        if b < b'0' {
+            return Field::Bad;
+        }
+        if b'9' < b {
+            return Field::Bad;
+        }
+        n = 10 * n + (b - b'0') as u64;
+        i += 1;
+    }
+    Field::Number(n as i64)
+}
+
+// A number with neither blanks nor a minus.
+fn natural(bs: &[u8]) -> Field
+    requires { ⌜ length (now bs) ≤ 18 ⌝ }
+    ensures { λ r. ⌜ r ≡ naturalOf (now (bs .entry)) ⌝ }
+{
+    if bs.len() == 0 {
+        return Field::Bad;
+    }
+    if bs.len() == 1 {
+        return digit_run(bs);
+    }
+    if bs[0] == b'0' {
+        return Field::Bad;
+    }
+    digit_run(bs)
+}
+
+// The field with a minus before it.
+fn negate(f: Field) -> Field
+    ensures { λ r. ⌜ r ≡ negated f ⌝ }
+{
+    match f {
+        Field::Number(v) => { if 0 < v { Field::Number(-v) } else { Field::Bad } }
+        Field::Bad => Field::Bad,
+    }
+}
+
+// How many blanks a field begins with.
+fn count_blanks(bs: &[u8]) -> usize
+    ensures { λ r. ⌜ r ≡ leadingBlanks (now (bs .entry)) ⌝ }
+{
+    let mut i = 0;
+    while i < bs.len() {
+        if bs[i] != b' ' {
+            return i;
+        }
+        i += 1;
+    }
+    i
+}
+
+// The number that stands in a field: each byte is read once.
+fn read_field(bs: &[u8]) -> Field
+    requires { ⌜ length (now bs) ≤ 18 ⌝ }
+    ensures { λ r. ⌜ r ≡ fieldOf (now (bs .entry)) ⌝ }
+{
+    let first = count_blanks(bs);
+    if bs.len() <= first {
+        return Field::Bad;
+    }
+    if bs[first] == b'-' {
+        let rest = first + 1;
+        return negate(natural(&bs[rest..]));
+    }
+    natural(&bs[first..])
+}
+
+// A line refused with this number of document 01.
+fn refused(number: u64) -> Line
+    ensures { λ r. ⌜ r ≡ refusedLine number ⌝ }
+{
+    Line {
+        kind: Kind::Refused(number),
+        values: [0; 10],
+    }
+}
+
+// The numbers of the first n fields of a line, under the tag.
+fn read_numbers(line: &[u8], tag: Tag, n: usize) -> Line
+    requires { ⌜ (n ≤ 10) × (3 + 8 * n ≤ length (now line)) ⌝ }
+    ensures { λ r. ⌜ r ≡ numbersLine tag n (drop 3 (now (line .entry))) ⌝ }
+{
+    let mut values = [0i64; 10];
+    let mut i = 0;
+    while i < n {
+        let at = 3 + 8 * i;
+        let end = at + 8;
+        let field = read_field(&line[at..end]);
+        let Field::Number(v) = field else {
+            return refused(2);
+        };
+        values[i] = v;
+        i += 1;
+    }
+    Line {
+        kind: Kind::Record(tag),
+        values,
+    }
+}
+
+// How many numbers follow a tag.
+fn field_count(tag: Tag) -> usize
+    ensures { λ r. ⌜ r ≡ fieldCount tag ⌝ }
+{
+    match tag {
+        Tag::Lin => 4,
+        Tag::Sta => 10,
+        Tag::Run => 1,
+        Tag::Drr => 0,
+        Tag::Drs => 0,
+        Tag::End => 2,
+    }
+}
+
+// The tag with these letters.
+fn find_tag(w: &[u8]) -> Kind
+    ensures { λ r. ⌜ r ≡ tagAmong tags (now (w .entry)) ⌝ }
+{
+    if same_bytes(w, b"LIN") {
+        return Kind::Record(Tag::Lin);
+    }
+    if same_bytes(w, b"STA") {
+        return Kind::Record(Tag::Sta);
+    }
+    if same_bytes(w, b"RUN") {
+        return Kind::Record(Tag::Run);
+    }
+    if same_bytes(w, b"DRR") {
+        return Kind::Record(Tag::Drr);
+    }
+    if same_bytes(w, b"DRS") {
+        return Kind::Record(Tag::Drs);
+    }
+    if same_bytes(w, b"END") {
+        return Kind::Record(Tag::End);
+    }
+    Kind::Refused(1)
+}
+
+// Whether a line ends in blanks up to column 83 and a line feed from index `from` on.
+fn ends_from(line: &[u8], from: usize) -> bool
+    requires { ⌜ (from ≤ 83) × (length (now line) ≡ 84) ⌝ }
+    ensures { λ r. ⌜ r ≡ same (drop from (now (line .entry))) (lineEnd from) ⌝ }
+{
+    let blank: &[u8] =
+        b"                                                                                   \n";
+    same_bytes(&line[from..], &blank[from..84])
+}
+
+// A line of 84 bytes with a known tag.
+fn read_record(line: &[u8], tag: Tag) -> Line
+    requires { ⌜ length (now line) ≡ 84 ⌝ }
+    ensures { λ r. ⌜ r ≡ recordIn tag (now (line .entry)) ⌝ }
+{
+    let n = field_count(tag);
+    if ends_from(line, 3 + 8 * n) {
+        read_numbers(line, tag, n)
+    } else {
+        refused(1)
+    }
+}
+
+// A line of the text book: its tag and numbers, or its refusal.
+pub fn parse_line(line: &[u8]) -> Line
+    ensures { λ r. ⌜ r ≡ lineIn (now (line .entry)) ⌝ }
+{
+    if line.len() != 84 {
+        return refused(1);
+    }
+    let kind = find_tag(&line[0..3]);
+    match kind {
+        Kind::Record(tag) => read_record(line, tag),
+        Kind::Refused(number) => refused(number),
+    }
+}
+
+// Whether a line is the heading of the text book.
+pub fn is_heading(line: &[u8]) -> bool
+    ensures { λ r. ⌜ r ≡ same (now (line .entry)) heading ⌝ }
+{
+    same_bytes(
+        line,
+        b"LEVEL BOOK                                                                         \n",
+    )
+}
