@@ -1,4 +1,4 @@
--- Document 01's worked lines, computed by the rules: the starred lines of 'Checked by hand' as one fact, and case A.
+-- The starred lines of document 01, 'Checked by hand', as one fact that the rules compute.
 use mathlib.Core.Path.{_≡_, refl}
 use mathlib.Core.Bool.{true, false}
 use mathlib.Core.List.{List, [], _∷_, map}
@@ -13,7 +13,7 @@ use Rattle.adjust.specs.Line.{Frame, frameOf, exactTop, closure, Closing, accid
 use Rattle.book.specs.Rules.{Call, open-line, station, end-run, close-line, discrepancyWithin}
 use Rattle.ledger.specs.Plain.{freshReading, after, refusals, standing, runOf, closings}
 
--- ---- case A
+-- ---- the stations of case A
 
 -- upper thread, lower thread, black and red middle
 abbrev staff : ℕ → ℕ → ℕ → ℕ → List ℤ
@@ -40,25 +40,6 @@ a4 = station (pos 4687) (pos 4787) (staff 1500 1300 1400 6087 ∷ staff 1250 105
 -- fourth order, DS3, from benchmark 1
 abbrev open4 : ℕ → Call
 open4 height = open-line (pos 4) (pos 3) (pos 1) (pos height)
-
-abbrev caseA : List Call
-caseA = open4 10000 ∷ a1 ∷ a2 ∷ end-run (pos 2) ∷ a3 ∷ a4 ∷ end-run (pos 3) ∷ close-line (pos 3) (pos 11206) ∷ []
-
-abbrev point : ℕ → ℕ → ℤ → ℕ → Point
-point n s c h = record { number = pos n; distance = pos s; correction = c; height = pos h }
-
-caseA-refusals : refusals freshReading caseA ≡ 0 ∷ 0 ∷ 0 ∷ 0 ∷ 0 ∷ 0 ∷ 0 ∷ 0 ∷ []
-unfolding isWithin
-caseA-refusals = refl
-
-caseA-closings :
-    closings freshReading caseA
-    ≡ record {
-      summary = record { closure = pos 8; distance = pos 4164; count = 2; accidental = pos 0; verdict = 0 };
-      points = point 1 0 (pos 0) 10000 ∷ point 2 2564 (negℤ (pos 4)) 10657 ∷ point 3 4164 (negℤ (pos 4)) 11206 ∷ [];
-    } ∷ []
-unfolding roundEven isWithin
-caseA-closings = refl
 
 -- ---- the starred lines
 
