@@ -1,0 +1,52 @@
+-- A text is read as the list of its calls is, so what is proved of every list of calls holds of what the report prints.
+use mathlib.Core.Path.{_≡_, refl, sym, ap, subst, _∙_}
+use mathlib.Core.Bool.{Bool, cond}
+use mathlib.Core.List.{List, [], _∷_, _++_}
+use Prim.Native.Nat.{ℕ}
+use lib.IntN.{ℤ}
+use Rattle.columns.specs.declared.reader.Kind.{Kind}
+use Rattle.columns.specs.declared.reader.Kind.the-variants.{Record, Refused}
+use Rattle.columns.specs.declared.reader.Line.{Line}
+use Rattle.columns.specs.Records.{lineIn}
+use Rattle.adjust.specs.Line.{Closing, closing}
+use Rattle.book.specs.declared.Stage.{Stage}
+use Rattle.book.specs.declared.Stage.the-variants.{Closed}
+use Rattle.book.specs.Standing.{isClosed}
+use Rattle.ledger.specs.Plain.{Reading, freshReading, after, standing}
+use Rattle.ledger.proofs.Drops.{after-append}
+use Rattle.ledger.proofs.Every.{every-list}
+use Rattle.fieldbook.specs.Text.{callsIn, lineNext, readingAfter, callsOf}
+use Rattle.fieldbook.specs.Report.{closingLines, openLine, resultLines}
+use Rattle.fieldbook.specs.Claims.{Printed, EveryText}
+
+line-calls : (r : Reading) (l : Line) → lineNext r l ≡ after r (callsIn l)
+line-calls r l = go (l .kind)
+  where
+    with-kind : Kind → Line
+    with-kind k = record { kind = k; values = l .values }
+
+    go : (k : Kind) → lineNext r (with-kind k) ≡ after r (callsIn (with-kind k))
+    go (Record t) = refl
+    go (Refused n) = refl
+
+pub reading-calls : (r : Reading) (ls : List (List ℕ)) → readingAfter r ls ≡ after r (callsOf ls)
+reading-calls r [] = refl
+reading-calls r (l ∷ ls) =
+    ap (λ (s : Reading). readingAfter s ls) (line-calls r (lineIn l)) ∙ reading-calls (after r (callsIn (lineIn l))) ls
+    ∙ sym (after-append r (callsIn (lineIn l)) (callsOf ls))
+
+-- the figures of a reading's line, as the report takes them
+abbrev figures : Reading → Closing
+figures r = closing (r .order) (r .start) (r .end) (standing r .sections)
+
+pub every-text : EveryText
+every-text ls e =
+    let r : Reading = readingAfter freshReading ls in
+    let same = reading-calls freshReading ls in
+    let once = every-list (callsOf ls) (sym (ap (λ (s : Reading). s .stage) same) ∙ e) in
+    record {
+      closing = once;
+      printed =
+          ap (λ (s : Stage). cond (isClosed s) (closingLines (figures r)) (openLine r ∷ [])) e
+          ∙ ap closingLines (ap figures (same ∙ once .stays) ∙ sym (once .sound .figures));
+    }

@@ -1,0 +1,2 @@
+-- What the report prints of a closed line.
+pub mod Calls

@@ -1,0 +1,72 @@
+-- The report of a text, byte for byte, and what the call that writes it leaves in the lent buffer.
+use mathlib.Core.Bool.{Bool, false, cond}
+use mathlib.Core.List.{List, [], _∷_, _++_, map}
+use Prim.Native.Nat.{ℕ}
+use lib.ListN.{length}
+use lib.Dec.{ltb}
+use lib.IntN.{ℤ, pos}
+use Rattle.numbers.specs.Tables.{firstOf}
+use Rattle.adjust.specs.declared.Point.{Point}
+use Rattle.adjust.specs.declared.Summary.{Summary}
+use Rattle.adjust.specs.Line.{Closing, closing}
+use Rattle.columns.specs.Buffers.{putAt}
+use Rattle.columns.specs.Decimals.{same}
+use Rattle.columns.specs.Lines.{tagLine, isWide, heading, title}
+use Rattle.columns.specs.Texts.{lines, joined}
+use Rattle.book.specs.Standing.{isClosed}
+use Rattle.ledger.specs.Plain.{Reading, freshReading, standing}
+use Rattle.fieldbook.specs.Text.{Refusal, refusalsFrom, readingAfter}
+
+-- ---- its lines
+
+-- "REF", line and number
+abbrev pub refLine : Refusal → List ℕ
+refLine x = tagLine (82 ∷ 69 ∷ 70 ∷ []) (pos (x .line) ∷ pos (x .number) ∷ []) false
+
+-- "CLO", W, L, n, T and the verdict
+abbrev pub closedLine : Summary → List ℕ
+closedLine s = tagLine (67 ∷ 76 ∷ 79 ∷ []) (s .closure ∷ s .distance ∷ pos (s .count) ∷ s .accidental ∷ pos (s .verdict) ∷ []) false
+
+-- "PNT", number, distance, correction and height
+abbrev pub pointLine : Point → List ℕ
+pointLine p = tagLine (80 ∷ 78 ∷ 84 ∷ []) (p .number ∷ p .distance ∷ p .correction ∷ p .height ∷ []) (isWide (p .height))
+
+-- "OPN", the finished sections
+abbrev pub openLine : Reading → List ℕ
+openLine r = tagLine (79 ∷ 80 ∷ 78 ∷ []) (pos (length (r .sections)) ∷ []) false
+
+abbrev pub closingLines : Closing → List (List ℕ)
+closingLines c = closedLine (c .summary) ∷ map pointLine (c .points)
+
+-- of the reading after the last line
+abbrev pub resultLines : Reading → List (List ℕ)
+resultLines r = cond (isClosed (r .stage)) (closingLines (closing (r .order) (r .start) (r .end) (standing r .sections))) (openLine r ∷ [])
+
+-- ---- the report
+
+abbrev pub reportOf : List Refusal → Reading → List (List ℕ)
+reportOf refusals r = title ∷ (map refLine refusals ++ resultLines r)
+
+-- where line 1 is not the heading, its refusal is the only one and reading stops
+abbrev pub withoutHeading : List (List ℕ)
+withoutHeading = reportOf (record { line = 1; number = 1 } ∷ []) freshReading
+
+abbrev pub reportLines : List (List ℕ) → List (List ℕ)
+reportLines [] = withoutHeading
+reportLines (l ∷ ls) = cond (same l heading) (reportOf (refusalsFrom 2 freshReading ls) (readingAfter freshReading ls)) withoutHeading
+
+unfoldable pub report : List ℕ → List ℕ
+report text = joined (reportLines (lines text))
+
+-- ---- the call
+
+-- 9 for a text above 65,268 bytes, 10 for a buffer below 65,536
+abbrev pub textTests : List ℕ → List ℕ → List (ℕ × Bool)
+textTests text buffer = (9, ltb 65268 (length text)) ∷ (10, ltb (length buffer) 65536) ∷ []
+
+unfoldable pub textRefusal : List ℕ → List ℕ → ℕ
+textRefusal text buffer = firstOf (textTests text buffer)
+
+-- the buffer after the call: the report at its beginning, or as it was
+unfoldable pub bufferAfter : List ℕ → List ℕ → List ℕ
+bufferAfter text buffer = cond (ltb 0 (textRefusal text buffer)) buffer (putAt buffer 0 (report text))
