@@ -30,7 +30,7 @@ use Rattle.book.specs.Rules as Rules
 use Rattle.book.specs.Calls.{freshBook, bookAfter, outcome, closingOf, closeNumber, closeValues, closeAnswerOf, closeOutcome, gaveOf}
 use Rattle.ledger.specs.Plain.{Reading, freshReading, next, taken, refusal, after, refusals, given, closings, standing}
 use Rattle.ledger.specs.Claims.{ClosedOnce}
-use Rattle.ledger.specs.Trace.{FreshEnsures, Ensures, CloseEnsures, Trace, done, call, close, Sound, EveryTrace}
+use Rattle.ledger.specs.Trace.{FreshEnsures, Ensures, CloseEnsures, Trace, done, call, close, SoundTrace, EveryTrace}
 use Rattle.ledger.proofs.Follows.{follows}
 use Rattle.ledger.proofs.Whole.{Kept, next-kept, fresh-kept, same-refusal, no-shorter}
 use Rattle.ledger.proofs.Every.{every-list}

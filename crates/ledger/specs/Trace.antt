@@ -52,7 +52,7 @@ pub data Trace : Book → List Call → List ℕ → List Closing → Book → T
 
 -- ---- the claim about the whole list
 
-pub record Sound (calls : List Call) (ns : List ℕ) (gs : List Closing) (e : Book) : Type 0 where
+pub record SoundTrace (calls : List Call) (ns : List ℕ) (gs : List Closing) (e : Book) : Type 0 where
   -- the plain reading answers the same numbers, and its closings give the same
   pub numbers : ns ≡ refusals freshReading calls
   pub given : gs ≡ closings freshReading calls
@@ -65,4 +65,4 @@ pub record Sound (calls : List Call) (ns : List ℕ) (gs : List Closing) (e : Bo
   pub closed : e .line .stage ≡ Closed → ClosedOnce calls gs
 
 abbrev pub EveryTrace : Type 0
-EveryTrace = (b e : Book) (calls : List Call) (ns : List ℕ) (gs : List Closing) → FreshEnsures b → Trace b calls ns gs e → Sound calls ns gs e
+EveryTrace = (b e : Book) (calls : List Call) (ns : List ℕ) (gs : List Closing) → FreshEnsures b → Trace b calls ns gs e → SoundTrace calls ns gs e
