@@ -21,7 +21,7 @@ use Rattle.book.specs.declared.Waiting.{Waiting}
 use Rattle.book.specs.declared.Waiting.the-variants.{Nothing, Outward}
 use Rattle.book.specs.declared.Book.{Book}
 use Rattle.book.specs.Bounds.{SmallRun, SmallRuns}
-use Rattle.book.specs.Standing.{standingOf, isEmpty, outwardOrReturn, runFits, waitingBroken, lineBroken, broken}
+use Rattle.book.specs.Standing.{standingOf, isEmpty, outwardOrReturn, runFits, waitingBroken, lineBroken, misplaced, broken}
 
 pub small-run : (u : Run) → runFits u ≡ true → SmallRun u
 small-run u e =
@@ -60,8 +60,9 @@ unbroken b e =
     let l = b .line in
     let ss = sectionsOf (b .sections) in
     let n = from-length (b .sections) 0 (b .sections .count) in
-    let fit = or-l (misfit ss) (lineBroken l (length ss)) e in
-    let line = ap (λ (m : ℕ). lineBroken l m) (sym n) ∙ or-r (misfit ss) (lineBroken l (length ss)) e in
+    let sums = or-l (misfit ss || lineBroken l (length ss)) (misplaced l (length ss)) e in
+    let fit = or-l (misfit ss) (lineBroken l (length ss)) sums in
+    let line = ap (λ (m : ℕ). lineBroken l m) (sym n) ∙ or-r (misfit ss) (lineBroken l (length ss)) sums in
     let u = not (runFits (l .present)) in
     let w = waitingBroken (l .waiting) (b .sections .count) in
     let s = not (heightInRange (l .start .height)) in

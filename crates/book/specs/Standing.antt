@@ -117,5 +117,11 @@ abbrev pub lineBroken : Line → ℕ → Bool
 lineBroken l count =
     not (runFits (l .present)) || waitingBroken (l .waiting) count || not (heightInRange (l .start .height)) || not (heightInRange (l .end))
 
+-- a fresh book has nothing in any list, and only an order levelled out and back has a run that waits
+abbrev pub misplaced : Line → ℕ → Bool
+misplaced l count =
+    (isFresh (l .stage) && not (eqb count 0 && eqb (l .present .count) 0 && not (isReturn (l .waiting))))
+    || (isReturn (l .waiting) && not (twoWay (l .order)))
+
 unfoldable pub broken : Standing → Bool
-broken v = misfit (v .sections) || lineBroken (v .line) (length (v .sections))
+broken v = misfit (v .sections) || lineBroken (v .line) (length (v .sections)) || misplaced (v .line) (length (v .sections))

@@ -5,7 +5,7 @@ ghost use Prim.Native.Nat.{_≤_};
 ghost use Rattle.numbers.specs.Whole.{anyOf, eqZ, lastOf};
 ghost use Rattle.adjust.specs.declared.Section.{Section};
 ghost use Rattle.adjust.specs.Sections.{sectionsOf};
-ghost use Rattle.book.specs.Standing.{standingOf, isFresh, isOpen, isClosed, isReturn, runFits, waitingBroken, lineBroken, broken};
+ghost use Rattle.book.specs.Standing.{standingOf, isFresh, isOpen, isClosed, isReturn, twoWay, runFits, waitingBroken, lineBroken, misplaced, broken};
 use super::Book;
 use super::Line;
 use super::Run;
@@ -13,6 +13,7 @@ use super::Stage;
 use super::Waiting;
 use adjust::Sections;
 use roots::limits::magnitude;
+use station::Order;
 
 pub(crate) fn is_fresh(stage: Stage) -> bool
     ensures { λ r. ⌜ r ≡ isFresh stage ⌝ }
@@ -111,11 +112,33 @@ fn line_broken(line: Line, count: usize) -> bool
         | !adjust::height_in_range(line.end)
 }
 
+fn is_two_way(order: Order) -> bool
+    ensures { λ r. ⌜ r ≡ twoWay order ⌝ }
+{
+    match order {
+        Order::Third => true,
+        Order::Fourth => false,
+    }
+}
+
+fn is_misplaced(line: Line, count: usize) -> bool
+    ensures { λ r. ⌜ r ≡ misplaced line count ⌝ }
+{
+    let stage = line.stage;
+    let waiting = line.waiting;
+    let order = line.order;
+    let back = is_return(waiting);
+    (is_fresh(stage) & !((count == 0) & (line.present.count == 0) & !back))
+        | (back & !is_two_way(order))
+}
+
 // Whether a record is none that calls can leave (refusal 20).
 pub(crate) fn is_broken(b: Book) -> bool
     ensures { λ r. ⌜ r ≡ broken (standingOf b) ⌝ }
 {
     let sections = b.sections;
     let line = b.line;
-    adjust::table::misfits(sections) | line_broken(line, sections.count)
+    adjust::table::misfits(sections)
+        | line_broken(line, sections.count)
+        | is_misplaced(line, sections.count)
 }

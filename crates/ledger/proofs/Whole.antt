@@ -12,7 +12,7 @@ use lib.IntN.{ℤ, pos}
 use lib.Signed.{_≤ℤ_, leZ}
 use Rattle.numbers.specs.Whole.{within, between, anyOf}
 use Rattle.numbers.specs.Tables.{firstOf}
-use Rattle.numbers.proofs.Tests.{by-test, no-true, and-l, and-r, or-l, or-r, not-false}
+use Rattle.numbers.proofs.Tests.{by-test, holds, no-true, and-l, and-r, or-l, or-r, not-false}
 use Rattle.numbers.proofs.Tables.{first-skips}
 use Rattle.numbers.proofs.Parts.{ints, parts-add, test-le}
 use Rattle.adjust.specs.declared.Section.{Section}
@@ -21,9 +21,10 @@ use Rattle.adjust.specs.Line.{lineLength}
 use Rattle.book.specs.declared.Stage.{Stage}
 use Rattle.book.specs.declared.Stage.the-variants.{Fresh, Open, Closed}
 use Rattle.book.specs.declared.Run.{Run}
+use Rattle.book.specs.declared.Line.{Line}
 use Rattle.book.specs.declared.Waiting.{Waiting}
 use Rattle.book.specs.declared.Waiting.the-variants.{Nothing, Outward}
-use Rattle.book.specs.Standing.{Standing, isFresh, isOpen, isShut, isEmpty, isReturn, outwardOrReturn, noRun, oneWay, bothWays, twoWay, runFits, waitingBroken, broken}
+use Rattle.book.specs.Standing.{Standing, isFresh, isOpen, isShut, isEmpty, isReturn, outwardOrReturn, noRun, oneWay, bothWays, twoWay, runFits, waitingBroken, misplaced, broken}
 use Rattle.book.specs.Rules.{Call, open-line, station, end-run, drop-run, drop-section, close-line, inputTests, stateTests, refusal, bookRefusal, discrepancyWithin, withRuns, withSection, runEnded, taken}
 use Rattle.ledger.specs.Plain as Plain
 use Rattle.ledger.specs.Plain.{Reading, freshReading, after, next, standing}
@@ -58,7 +59,7 @@ pub record Kept (v : Standing) : Type 0 where
   pub start : heightInRange (v .line .start .height) ≡ true
   pub end : heightInRange (v .line .end) ≡ true
   pub closed : v .line .stage ≡ Closed → 1 ≤ length (v .sections)
-  pub fresh : v .line .stage ≡ Fresh → v .sections ≡ []
+  pub placed : misplaced (v .line) (length (v .sections)) ≡ false
 
 -- so the test of 20 does not hold
 kept-whole : (v : Standing) → Kept v → broken v ≡ false
@@ -66,10 +67,26 @@ unfolding broken
 kept-whole v i =
     λ j. (not (le-leb (length (v .sections)) 64 (i .few) j) || i .fit j)
     || (not (run-fits (v .line .present) (i .present) j) || waits (v .line .waiting) (i .waiting) j || not (i .start j) || not (i .end j))
+    || i .placed j
   where
     waits : (w : Waiting) → Awaits (length (v .sections)) w → waitingBroken w (length (v .sections)) ≡ false
     waits Nothing k = refl
     waits (Outward number run) k = λ j. not (run-fits run (k .0) j) || lt-leb 64 (length (v .sections)) (k .1) j
+
+-- an open line is not fresh: what is left to see is what waits
+abbrev stray : Standing → Bool
+stray v = isReturn (v .line .waiting) && not (twoWay (v .line .order))
+
+no-stray : (v : Standing) → Kept v → stray v ≡ false
+no-stray v i = or-r (isFresh (v .line .stage) && not (eqb (length (v .sections)) 0 && eqb (v .line .present .count) 0 && not (isReturn (v .line .waiting)))) (stray v) (i .placed)
+
+not-fresh : (s : Stage) → isOpen s ≡ true → isFresh s ≡ false
+not-fresh Fresh e = no-true e
+not-fresh Open e = refl
+not-fresh Closed e = refl
+
+open-placed : (l : Line) (n : ℕ) → isOpen (l .stage) ≡ true → isReturn (l .waiting) && not (twoWay (l .order)) ≡ false → misplaced l n ≡ false
+open-placed l n o e = λ j. (not-fresh (l .stage) o j && not (eqb n 0 && eqb (l .present .count) 0 && not (isReturn (l .waiting)))) || e j
 
 -- ---- the end of a run
 
@@ -89,7 +106,7 @@ section-kept v x i o room e =
       start = i .start;
       end = i .end;
       closed = λ c. rw (length-append (v .sections) (x ∷ [])) (omega arith);
-      fresh = λ c. no-true (sym (ap isOpen c) ∙ o);
+      placed = open-placed (withSection v x .line) (length (withSection v x .sections)) o refl;
     }
 
 -- by the tests 21, 29, 31 and 32
@@ -97,7 +114,7 @@ run-kept : (v : Standing) (number : ℤ) → Kept v → refusal v (end-run numbe
 run-kept v number i e =
     let from-29 = fails v (end-run number) e .1 .1 in
     let some : 0 < u .count = omega (arith, eqb-false (u .count) 0 (or-l (eqb (u .count) 0) (eqb (u .count % 2) 1) (from-29 .0))) in
-    go (v .line .waiting) (twoWay (v .line .order)) some (i .waiting) (from-29 .1 .0) (from-29 .1 .1 .1 .0)
+    go (v .line .waiting) (twoWay (v .line .order)) refl some (i .waiting) (from-29 .1 .0) (from-29 .1 .1 .1 .0)
   where
     running : isOpen (v .line .stage) ≡ true
     running = not-false (isOpen (v .line .stage)) (or-l (not (isOpen (v .line .stage))) (isShut v) (fails v (end-run number) e .1 .0))
@@ -108,12 +125,12 @@ run-kept v number i e =
     n : ℕ
     n = length (v .sections)
 
-    go : (w : Waiting) (t : Bool) → 0 < u .count → Awaits n w → not (isReturn w) && leb 64 n ≡ false
+    go : (w : Waiting) (t : Bool) → twoWay (v .line .order) ≡ t → 0 < u .count → Awaits n w → not (isReturn w) && leb 64 n ≡ false
         → outwardOrReturn w false (λ outward run. not (discrepancyWithin (bothWays outward run u))) ≡ false
         → Kept (outwardOrReturn w
         (cond t (record { line = withRuns (v .line) (Outward number u) noRun; sections = v .sections }) (withSection v (oneWay number u)))
         (λ outward run. withSection v (bothWays outward run u)))
-    go Nothing true some k room d =
+    go Nothing true both some k room d =
         record {
           few = i .few;
           fit = i .fit;
@@ -122,10 +139,10 @@ run-kept v number i e =
           start = i .start;
           end = i .end;
           closed = i .closed;
-          fresh = i .fresh;
+          placed = open-placed (withRuns (v .line) (Outward number u) noRun) n running (λ j. not (both j));
         }
-    go Nothing false some k room d = section-kept v (oneWay number u) i running (leb-false 64 n room) (one-way-fits number u (i .present) some)
-    go (Outward outward run) t some k room d =
+    go Nothing false both some k room d = section-kept v (oneWay number u) i running (leb-false 64 n room) (one-way-fits number u (i .present) some)
+    go (Outward outward run) t both some k room d =
         section-kept v (bothWays outward run u) i running (k .1)
         (both-ways-fits outward run u (k .0) (i .present) some (not-false (discrepancyWithin (bothWays outward run u)) d))
 
@@ -134,6 +151,11 @@ run-kept v number i e =
 not-empty : (ss : List Section) → isEmpty ss ≡ false → 1 ≤ length ss
 not-empty [] e = no-true (sym e)
 not-empty (x ∷ xs) e = omega arith
+
+running-station : (v : Standing) (kb kf : ℤ) (readings : List (List ℤ)) → refusal v (station kb kf readings) ≡ 0 → isOpen (v .line .stage) ≡ true
+running-station v kb kf readings e =
+    not-false (isOpen (v .line .stage))
+    (or-l (not (isOpen (v .line .stage))) (isShut v) (fails v (station kb kf readings) e .1 .1 .1 .0))
 
 taken-kept : (v : Standing) (c : Call) → Kept v → refusal v c ≡ 0 → Kept (taken v c)
 -- by the test 5
@@ -146,7 +168,7 @@ taken-kept v (open-line order instrument number height) i e =
       start = not-false (heightInRange height) (fails v (open-line order instrument number height) e .1 .1 .0);
       end = refl;
       closed = λ c. absurd (open-not-closed c);
-      fresh = λ c. refl;
+      placed = refl;
     }
 taken-kept v (station kb kf readings) i e =
     record {
@@ -157,13 +179,13 @@ taken-kept v (station kb kf readings) i e =
       start = i .start;
       end = i .end;
       closed = i .closed;
-      fresh = i .fresh;
+      placed = open-placed (taken v (station kb kf readings) .line) (length (v .sections)) (running-station v kb kf readings e) (no-stray v i);
     }
 taken-kept v (end-run number) i e = run-kept v number i e
 taken-kept v drop-run i e =
-    record { few = i .few; fit = i .fit; present = no-run-sized; waiting = i .waiting; start = i .start; end = i .end; closed = i .closed; fresh = i .fresh }
+    record { few = i .few; fit = i .fit; present = no-run-sized; waiting = i .waiting; start = i .start; end = i .end; closed = i .closed; placed = open-placed (taken v drop-run .line) (length (v .sections)) (not-false (isOpen (v .line .stage)) (fails v drop-run e .0)) (no-stray v i) }
 taken-kept v drop-section i e =
-    record { few = i .few; fit = i .fit; present = no-run-sized; waiting = tt; start = i .start; end = i .end; closed = i .closed; fresh = i .fresh }
+    record { few = i .few; fit = i .fit; present = no-run-sized; waiting = tt; start = i .start; end = i .end; closed = i .closed; placed = open-placed (taken v drop-section .line) (length (v .sections)) (not-false (isOpen (v .line .stage)) (fails v drop-section e .0)) refl }
 -- by the tests 5 and 33
 taken-kept v (close-line number end) i e =
     let from-4 = fails v (close-line number end) e in
@@ -177,15 +199,19 @@ taken-kept v (close-line number end) i e =
       end = not-false (heightInRange end) (from-4 .1 .0);
       closed =
           λ c. not-empty (v .sections) (or-r (not (eqb (v .line .present .count) 0) || isReturn (v .line .waiting)) (isEmpty (v .sections)) (from-33 .0));
-      fresh = λ c. absurd (fresh-not-closed (sym c));
+      placed = no-stray v i;
     }
 
 -- ---- no call shortens the list of sections: one that opens a line finds none
 
-is-fresh : (s : Stage) → isFresh s ≡ true → s ≡ Fresh
-is-fresh Fresh e = refl
-is-fresh Open e = no-true e
-is-fresh Closed e = no-true e
+fresh-none : (v : Standing) → Kept v → isFresh (v .line .stage) ≡ true → length (v .sections) ≡ 0
+fresh-none v i e =
+    let n = eqb (length (v .sections)) 0 in
+    let u = eqb (v .line .present .count) 0 in
+    let w = not (isReturn (v .line .waiting)) in
+    let full = or-l (isFresh (v .line .stage) && not (n && u && w)) (stray v) (i .placed) in
+    let empty = not-false (n && u && w) (sym (λ j. e j && not (n && u && w)) ∙ full) in
+    eqb→eq (length (v .sections)) 0 (holds (and-l n u (and-l (n && u) w empty)))
 
 run-longer : (v : Standing) (number : ℤ) (w : Waiting) (t : Bool)
     → length (v .sections)
@@ -199,8 +225,7 @@ run-longer v number (Outward outward run) t = rw (length-append (v .sections) (b
 pub no-shorter : (v : Standing) (c : Call) → Kept v → refusal v c ≡ 0 → length (v .sections) ≤ length (taken v c .sections)
 no-shorter v (open-line order instrument number height) i e =
     let from-3 = fails v (open-line order instrument number height) e in
-    let none = i .fresh (is-fresh (v .line .stage) (not-false (isFresh (v .line .stage)) (from-3 .1 .1 .1 .0))) in
-    rw none (omega arith)
+    omega (arith, fresh-none v i (not-false (isFresh (v .line .stage)) (from-3 .1 .1 .1 .0)))
 no-shorter v (station kb kf readings) i e = le-refl (length (v .sections))
 no-shorter v (end-run number) i e = run-longer v number (v .line .waiting) (twoWay (v .line .order))
 no-shorter v drop-run i e = le-refl (length (v .sections))
@@ -220,7 +245,7 @@ after-kept (c ∷ cs) r i = after-kept cs (next r c) (next-kept r c i)
 
 pub fresh-kept : Kept (standing freshReading)
 fresh-kept =
-    record { few = omega arith; fit = refl; present = no-run-sized; waiting = tt; start = refl; end = refl; closed = λ c. absurd (fresh-not-closed c); fresh = λ c. refl }
+    record { few = omega arith; fit = refl; present = no-run-sized; waiting = tt; start = refl; end = refl; closed = λ c. absurd (fresh-not-closed c); placed = refl }
 
 calls-kept : (calls : List Call) → Kept (standing (after freshReading calls))
 calls-kept calls = after-kept calls freshReading fresh-kept

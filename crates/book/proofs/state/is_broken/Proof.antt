@@ -4,7 +4,7 @@ use mathlib.Core.Bool.{_||_}
 use Prim.Native.Nat.{ℕ}
 use Rattle.adjust.specs.Sections.{misfit, sectionsOf}
 use Rattle.adjust.proofs.Lists.{from-length}
-use Rattle.book.specs.Standing.{lineBroken, broken}
+use Rattle.book.specs.Standing.{lineBroken, misplaced, broken}
 use borrow.Author.Needs.{needs}
 use Rattle.book.proofs.state.is_broken.Statement.{statement}
 use Rattle.book.proofs.state.is_broken.Tie as tie
@@ -15,14 +15,21 @@ misfits-requires c κs = search needs
 line-broken-requires : tie.Need-line-broken-requires
 line-broken-requires c κs = search needs
 
+is-misplaced-requires : tie.Need-is-misplaced-requires
+is-misplaced-requires c κs = search needs
+
 returns : tie.Need-returns
 unfolding broken
 returns c =
-    let m = c .before in
+    let n = c .before in
+    let m = n .before in
     let s = m .before .before .before in
     let t = s .args .b .sections in
-    let line = c .line-broken .ensures ∙ ap (lineBroken (s .args .b .line)) (sym (from-length t 0 (t .count))) in
-    λ i. m .misfits .ensures i || line i
+    let l = s .args .b .line in
+    let count = sym (from-length t 0 (t .count)) in
+    let sums = n .line-broken .ensures ∙ ap (lineBroken l) count in
+    let places = c .is-misplaced .ensures ∙ ap (misplaced l) count in
+    λ i. m .misfits .ensures i || sums i || places i
 
 pub is-broken-spec : {M : Type 1} → statement M
-is-broken-spec = tie.close (tie.spec misfits-requires line-broken-requires returns)
+is-broken-spec = tie.close (tie.spec misfits-requires line-broken-requires is-misplaced-requires returns)
