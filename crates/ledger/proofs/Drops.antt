@@ -16,7 +16,7 @@ use Rattle.book.specs.Rules.{Call, open-line, station, end-run, drop-run, drop-
 use Rattle.ledger.specs.Plain.{Reading, Awaited, after, next, taken, refusal, withLists}
 use Rattle.ledger.specs.Claims.{stationsOnly}
 
-after-append : (r : Reading) (xs ys : List Call) → after r (xs ++ ys) ≡ after (after r xs) ys
+pub after-append : (r : Reading) (xs ys : List Call) → after r (xs ++ ys) ≡ after (after r xs) ys
 after-append r [] ys = refl
 after-append r (x ∷ xs) ys = after-append (next r x) xs ys
 
