@@ -71,7 +71,7 @@ fn table_of(legs: [Leg; 64], count: usize) -> Sections
 }
 
 // Document 01's number of an answer, 0 for a call that is taken.
-fn number_of(a: Answer) -> u8
+pub fn number_of(a: Answer) -> u8
     ensures { λ r. ⌜ r ≡ numberOf a ⌝ }
 {
     match a {

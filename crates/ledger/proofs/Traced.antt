@@ -36,22 +36,22 @@ use Rattle.ledger.proofs.Whole.{Kept, next-kept, fresh-kept, same-refus
 use Rattle.ledger.proofs.Every.{every-list}
 
 -- the book that holds what the plain reading's lists sum to
-abbrev bookOf : Reading → Book
+abbrev pub bookOf : Reading → Book
 bookOf r = bookWith freshBook (standing r)
 
 holds-standing : (r : Reading) → standingOf (bookOf r) ≡ standing r
 holds-standing r = λ i. record { line = standing r .line; sections = sections-holding (freshBook .sections) (standing r .sections) i }
 
-fresh-holds : freshBook ≡ bookOf freshReading
+pub fresh-holds : freshBook ≡ bookOf freshReading
 fresh-holds = λ i. record { line = freshBook .line; sections = sym (holding-none (freshBook .sections)) i }
 
 -- ---- one call
 
 module _ (r : Reading) (k : Kept (standing r)) (c : Call) where
-  number : bookRefusal (standingOf (bookOf r)) c ≡ refusal r c
+  pub number : bookRefusal (standingOf (bookOf r)) c ≡ refusal r c
   number = ap (λ (v : Standing). bookRefusal v c) (holds-standing r) ∙ same-refusal (standing r) c k
 
-  left : bookAfter (bookOf r) c ≡ bookOf (next r c)
+  pub left : bookAfter (bookOf r) c ≡ bookOf (next r c)
   unfolding bookAfter
   left =
       (λ i. cond (eqb (number i) 0) (bookWith (bookOf r) (Rules.taken (holds-standing r i) c)) (bookOf r))
@@ -97,7 +97,7 @@ gives b number end h = go (bookRefusal (standingOf b) (close-line number end)) (
     go n true = λ i. record { summary = gave .summary; points = back (b .line .start .height) end (b .line .start .number) (sectionsOf (b .sections)) h i } ∷ []
     go n false = refl
 
-close-number : (n : ℕ) (s : Summary) → closeNumber (closeAnswerOf n s) ≡ n
+pub close-number : (n : ℕ) (s : Summary) → closeNumber (closeAnswerOf n s) ≡ n
 close-number zero s = refl
 close-number (suc n) s = rw (eqb·suc-zero n) refl
 

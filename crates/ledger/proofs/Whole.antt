@@ -247,7 +247,7 @@ pub fresh-kept : Kept (standing freshReading)
 fresh-kept =
     record { few = omega arith; fit = refl; present = no-run-sized; waiting = tt; start = refl; end = refl; closed = λ c. absurd (fresh-not-closed c); placed = refl }
 
-calls-kept : (calls : List Call) → Kept (standing (after freshReading calls))
+pub calls-kept : (calls : List Call) → Kept (standing (after freshReading calls))
 calls-kept calls = after-kept calls freshReading fresh-kept
 
 -- ---- so a book made by calls never meets the test of 20

@@ -1,0 +1,108 @@
+-- `station_step` meets its contract.
+use mathlib.Core.Path.{_≡_, sym, ap, _∙_}
+use mathlib.Core.List.{[], _∷_}
+use mir.Syntax.{w64}
+use mir.Val.{SFits}
+use Rattle.numbers.proofs.Machine.{stored-id}
+use Rattle.book.specs.Rules.{station}
+use Rattle.book.specs.Calls.{outcome}
+use Rattle.runner.specs.Calls.{argument, stationOf}
+use Rattle.runner.proofs.Laws.{by-outcome}
+use borrow.Author.Needs.{needs}
+use Rattle.runner.proofs.station_step.Statement.{statement}
+use Rattle.runner.proofs.station_step.Tie as tie
+
+array-copy-out-station : tie.Need-array-copy-out-station
+array-copy-out-station c = search needs
+
+array-copy-out-station-2 : tie.Need-array-copy-out-station-2
+array-copy-out-station-2 c = search needs
+
+array-copy-out-t14 : tie.Need-array-copy-out-t14
+array-copy-out-t14 c = search needs
+
+array-copy-out-t17 : tie.Need-array-copy-out-t17
+array-copy-out-t17 c = search needs
+
+array-copy-out-station-3 : tie.Need-array-copy-out-station-3
+array-copy-out-station-3 c = search needs
+
+array-copy-out-t17-2 : tie.Need-array-copy-out-t17-2
+array-copy-out-t17-2 c = search needs
+
+array-copy-out-t14-2 : tie.Need-array-copy-out-t14-2
+array-copy-out-t14-2 c = search needs
+
+array-copy-out-station-4 : tie.Need-array-copy-out-station-4
+array-copy-out-station-4 c = search needs
+
+array-copy-out-station-5 : tie.Need-array-copy-out-station-5
+array-copy-out-station-5 c = search needs
+
+array-copy-out-station-6 : tie.Need-array-copy-out-station-6
+array-copy-out-station-6 c = search needs
+
+station-requires : tie.Need-station-requires
+station-requires c κs = search needs
+
+step-of-requires : tie.Need-step-of-requires
+step-of-requires c κs = search needs
+
+third : (c : tie.After-station-arg) → SFits w64 (argument (c .before .args .t2) 3)
+third c = search needs
+
+fourth : (c : tie.After-station-arg2) → SFits w64 (argument (c .before .before .args .t2) 4)
+fourth c = search needs
+
+fifth : (c : tie.After-t14) → SFits w64 (argument (c .before .before .before .args .t2) 5)
+fifth c = search needs
+
+sixth : (c : tie.After-t17) → SFits w64 (argument (c .before .before .before .before .args .t2) 6)
+sixth c = search needs
+
+seventh : (c : tie.After-station-arg3) → SFits w64 (argument (c .before .before .before .before .before .args .t2) 7)
+seventh c = search needs
+
+eighth : (c : tie.After-t172) → SFits w64 (argument (c .before .before .before .before .before .before .args .t2) 8)
+eighth c = search needs
+
+ninth : (c : tie.After-t142) → SFits w64 (argument (c .before .before .before .before .before .before .before .args .t2) 9)
+ninth c = search needs
+
+tenth : (c : tie.After-station-arg4) → SFits w64 (argument (c .before .before .before .before .before .before .before .before .args .t2) 10)
+tenth c = search needs
+
+first : (c : tie.After-station-arg5) → SFits w64 (argument (c .before .before .before .before .before .before .before .before .before .args .t2) 1)
+first c = search needs
+
+second : (c : tie.After-station-arg6) → SFits w64 (argument (c .before .before .before .before .before .before .before .before .before .before .args .t2) 2)
+second c = search needs
+
+returns : tie.Need-returns
+returns c =
+    let a = c .before .before in
+    let s = a .before .before .before .before .before .before .before .before .before .before in
+    by-outcome (s .args .b) (stationOf (s .args .t2)) (c .step-of .ensures)
+    (c .before .station .ensures
+    ∙ (λ i. outcome (s .args .b)
+    (station (stored-id (first (a .before)) i) (stored-id (second a) i)
+    ((stored-id (third (a .before .before .before .before .before .before .before .before .before)) i ∷ stored-id (fourth (a .before .before .before .before .before .before .before .before)) i ∷ stored-id (fifth (a .before .before .before .before .before .before .before)) i ∷ stored-id (sixth (a .before .before .before .before .before .before)) i ∷ [])
+    ∷ (stored-id (seventh (a .before .before .before .before .before)) i ∷ stored-id (eighth (a .before .before .before .before)) i ∷ stored-id (ninth (a .before .before .before)) i ∷ stored-id (tenth (a .before .before)) i ∷ []) ∷ []))))
+
+pub station-step-spec : {M : Type 1} → statement M
+station-step-spec =
+    tie.close
+    (tie.spec
+    array-copy-out-station
+    array-copy-out-station-2
+    array-copy-out-t14
+    array-copy-out-t17
+    array-copy-out-station-3
+    array-copy-out-t17-2
+    array-copy-out-t14-2
+    array-copy-out-station-4
+    array-copy-out-station-5
+    array-copy-out-station-6
+    station-requires
+    step-of-requires
+    returns)

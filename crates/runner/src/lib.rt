@@ -1,0 +1,133 @@
+// Lists of calls, as numbers in a lent slice: 11 a call (specs/Calls.antt).
+ghost use mathlib.Core.Path.{_≡_};
+ghost use Prim.Native.Nat.{_+_, _≤_};
+ghost use lib.ListN.{length, take, drop};
+ghost use Rattle.book.specs.Standing.{bookWith};
+ghost use Rattle.book.specs.Calls.{closeNumber, freshBook};
+ghost use Rattle.ledger.specs.Plain.{freshReading, after, refusals, standing};
+ghost use Rattle.runner.specs.Calls.{openOf, stationOf, closeOf, callOf, callsOf, stepFrom, stepOf, written};
+use adjust::entry::number_of;
+use book::Book;
+use book::CloseAnswer;
+use book::Outcome;
+use book::calls;
+
+// What a call answers, by document 01's number, and the book that it leaves.
+pub struct Step {
+    pub number: u8,
+    pub book: Book,
+}
+
+fn step_of(o: Outcome) -> Step
+    ensures { λ r. ⌜ r ≡ stepFrom o ⌝ }
+{
+    let answer = o.answer;
+    let number = number_of(answer);
+    let book = o.book;
+    Step {
+        number: number,
+        book: book,
+    }
+}
+
+fn close_number(a: CloseAnswer) -> u8
+    ensures { λ r. ⌜ r ≡ closeNumber a ⌝ }
+{
+    match a {
+        CloseAnswer::Closed(_) => 0,
+        CloseAnswer::NotClosed(n) => n,
+    }
+}
+
+fn open_step(b: Book, call: [i64; 11]) -> Step
+    ensures { λ r. ⌜ r ≡ stepOf b (openOf call) ⌝ }
+{
+    step_of(calls::open(b, call[1], call[2], call[3], call[4]))
+}
+
+fn station_step(b: Book, call: [i64; 11]) -> Step
+    ensures { λ r. ⌜ r ≡ stepOf b (stationOf call) ⌝ }
+{
+    let back = [call[3], call[4], call[5], call[6]];
+    let fore = [call[7], call[8], call[9], call[10]];
+    step_of(calls::station(b, call[1], call[2], [back, fore]))
+}
+
+fn close_step(b: Book, call: [i64; 11]) -> Step
+    ensures { λ r. ⌜ r ≡ stepOf b (closeOf call) ⌝ }
+{
+    let o = calls::close_line(b, call[1], call[2]);
+    let answer = o.answer;
+    let number = close_number(answer);
+    let book = o.book;
+    Step {
+        number: number,
+        book: book,
+    }
+}
+
+// One call, whatever its numbers.
+pub fn run_call(b: Book, call: [i64; 11]) -> Step
+    ensures { λ r. ⌜ r ≡ stepOf b (callOf call) ⌝ }
+{
+    let kind = call[0];
+    if kind == 1 {
+        return open_step(b, call);
+    }
+    if kind == 2 {
+        return station_step(b, call);
+    }
+    if kind == 3 {
+        return step_of(calls::end_run(b, call[1]));
+    }
+    if kind == 4 {
+        return step_of(calls::drop_run(b));
+    }
+    if kind == 5 {
+        return step_of(calls::drop_section(b));
+    }
+    if kind == 6 {
+        return close_step(b, call);
+    }
+    step_of(calls::end_run(b, 0))
+}
+
+fn numbers_at(s: &[i64], at: usize) -> [i64; 11]
+    requires { ⌜ at + 11 ≤ length (now s) ⌝ }
+    ensures { λ r. ⌜ r ≡ take 11 (drop at (now (s .entry))) ⌝ }
+{
+    [
+        s[at],
+        s[at + 1],
+        s[at + 2],
+        s[at + 3],
+        s[at + 4],
+        s[at + 5],
+        s[at + 6],
+        s[at + 7],
+        s[at + 8],
+        s[at + 9],
+        s[at + 10],
+    ]
+}
+
+// The calls one after another, the first on a fresh book. Each call's number goes into its place of the lent list, where there is one.
+pub fn run_calls(calls: &[i64], numbers: &mut [u8]) -> Book
+    ensures { λ r. ⌜ (r ≡ bookWith freshBook (standing (after freshReading (callsOf (now (calls .entry))))))
+        × (now (numbers .exit) ≡ written (refusals freshReading (callsOf (now (calls .entry)))) (now (numbers .entry))) ⌝ }
+{
+    let n = calls.len() / 11;
+    let mut b = book::fresh();
+    let mut k = 0;
+    while k < n {
+        let call = numbers_at(calls, k * 11);
+        let s = run_call(b, call);
+        let number = s.number;
+        b = s.book;
+        if k < numbers.len() {
+            numbers[k] = number;
+        }
+        k += 1;
+    }
+    b
+}
