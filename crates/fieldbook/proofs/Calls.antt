@@ -8,13 +8,12 @@ use Rattle.columns.specs.declared.reader.Kind.{Kind}
 use Rattle.columns.specs.declared.reader.Kind.the-variants.{Record, Refused}
 use Rattle.columns.specs.declared.reader.Line.{Line}
 use Rattle.columns.specs.Records.{lineIn}
-use Rattle.adjust.specs.Line.{Closing, closing}
 use Rattle.book.specs.declared.Stage.{Stage}
 use Rattle.book.specs.declared.Stage.the-variants.{Closed}
 use Rattle.book.specs.Standing.{isClosed}
-use Rattle.ledger.specs.Plain.{Reading, freshReading, after, standing}
+use Rattle.ledger.specs.Plain.{Reading, freshReading, after, figuresOf}
 use Rattle.ledger.proofs.Drops.{after-append}
-use Rattle.ledger.proofs.Every.{every-list}
+use Rattle.ledger.proofs.Every.{every-list, same-figures}
 use Rattle.fieldbook.specs.Text.{callsIn, lineNext, readingAfter, callsOf}
 use Rattle.fieldbook.specs.Report.{closingLines, openLine, resultLines}
 use Rattle.fieldbook.specs.Claims.{Printed, EveryText}
@@ -35,18 +34,14 @@ reading-calls r (l ∷ ls) =
     ap (λ (s : Reading). readingAfter s ls) (line-calls r (lineIn l)) ∙ reading-calls (after r (callsIn (lineIn l))) ls
     ∙ sym (after-append r (callsIn (lineIn l)) (callsOf ls))
 
--- the figures of a reading's line, as the report takes them
-abbrev figures : Reading → Closing
-figures r = closing (r .order) (r .start) (r .end) (standing r .sections)
-
 pub every-text : EveryText
 every-text ls e =
     let r : Reading = readingAfter freshReading ls in
     let same = reading-calls freshReading ls in
-    let once = every-list (callsOf ls) (sym (ap (λ (s : Reading). s .stage) same) ∙ e) in
+    let shut = sym (ap (λ (s : Reading). s .stage) same) ∙ e in
     record {
-      closing = once;
+      closing = every-list (callsOf ls) shut;
       printed =
-          ap (λ (s : Stage). cond (isClosed s) (closingLines (figures r)) (openLine r ∷ [])) e
-          ∙ ap closingLines (ap figures (same ∙ once .stays) ∙ sym (once .sound .figures));
+          ap (λ (s : Stage). cond (isClosed s) (closingLines (figuresOf r)) (openLine r ∷ [])) e
+          ∙ ap closingLines (ap figuresOf same ∙ same-figures (callsOf ls) shut);
     }

@@ -8,13 +8,13 @@ use lib.IntN.{ℤ, pos}
 use Rattle.numbers.specs.Tables.{firstOf}
 use Rattle.adjust.specs.declared.Point.{Point}
 use Rattle.adjust.specs.declared.Summary.{Summary}
-use Rattle.adjust.specs.Line.{Closing, closing}
+use Rattle.adjust.specs.Line.{Closing}
 use Rattle.columns.specs.Buffers.{putAt}
 use Rattle.columns.specs.Decimals.{same}
 use Rattle.columns.specs.Lines.{tagLine, isWide, heading, title}
 use Rattle.columns.specs.Texts.{lines, joined}
 use Rattle.book.specs.Standing.{isClosed}
-use Rattle.ledger.specs.Plain.{Reading, freshReading, standing}
+use Rattle.ledger.specs.Plain.{Reading, freshReading, figuresOf}
 use Rattle.fieldbook.specs.Text.{Refusal, refusalsFrom, readingAfter}
 
 -- ---- its lines
@@ -40,7 +40,7 @@ closingLines c = closedLine (c .summary) ∷ map pointLine (c .points)
 
 -- of the reading after the last line
 abbrev pub resultLines : Reading → List (List ℕ)
-resultLines r = cond (isClosed (r .stage)) (closingLines (closing (r .order) (r .start) (r .end) (standing r .sections))) (openLine r ∷ [])
+resultLines r = cond (isClosed (r .stage)) (closingLines (figuresOf r)) (openLine r ∷ [])
 
 -- ---- the report
 

@@ -16,7 +16,7 @@ use Rattle.adjust.proofs.Lines.{line-sound}
 use Rattle.book.specs.declared.Stage.the-variants.{Closed}
 use Rattle.book.specs.Standing.{Standing}
 use Rattle.book.specs.Rules.{Call, open-line, station, end-run, drop-run, drop-section, close-line, inputTests}
-use Rattle.ledger.specs.Plain.{Reading, Awaited, freshReading, after, next, taken, refusal, standing, runEnded, given, closings}
+use Rattle.ledger.specs.Plain.{Reading, Awaited, freshReading, after, next, taken, refusal, standing, runEnded, figuresOf, given, closings}
 use Rattle.ledger.specs.Claims.{SoundClosing, EveryList, takenOnly}
 use Rattle.ledger.proofs.Follows.{recast}
 use Rattle.ledger.proofs.Whole.{open-not-closed, fresh-not-closed, closed-long}
@@ -56,7 +56,7 @@ record Found (r : Reading) (cs : List Call) : Type 0 where
   once : closings r cs ≡ given (after r before) (close-line number end)
   stays : after r cs ≡ taken (after r before) (close-line number end)
 
-abbrev NotClosed : Reading → Type 0
+abbrev pub NotClosed : Reading → Type 0
 NotClosed r = r .stage ≡ Closed → ⊥
 
 -- calls that leave a line closed that was not
@@ -121,6 +121,32 @@ found (close-line m h ∷ cs) r n e = go (found cs) (eqb (refusal r c) 0) refl
         behind c cs r (ap (λ (t : Bool). cond t (given r c) []) k)
         (find (next r c) (subst (λ (t : Bool). NotClosed (cond t (taken r c) r)) (sym k) n) e)
 
+-- ---- a line that is not closed in the end gave no closing
+
+pub either : {A : Type 0} (t : Bool) {x y : A} → x ≡ y → cond t x y ≡ y
+either true e = e
+either false e = refl
+
+-- what one call gives, where the calls after it leave the line unclosed
+gives-none : (c : Call) (cs : List Call) (r : Reading) → NotClosed (after r (c ∷ cs)) → cond (eqb (refusal r c) 0) (given r c) [] ≡ []
+gives-none (open-line o i m h) cs r n = either (eqb (refusal r (open-line o i m h)) 0) refl
+gives-none (station kb kf m) cs r n = either (eqb (refusal r (station kb kf m)) 0) refl
+gives-none (end-run m) cs r n = either (eqb (refusal r (end-run m)) 0) refl
+gives-none drop-run cs r n = either (eqb (refusal r drop-run) 0) refl
+gives-none drop-section cs r n = either (eqb (refusal r drop-section) 0) refl
+gives-none (close-line m h) cs r n = go (eqb (refusal r c) 0) refl
+  where
+    c : Call
+    c = close-line m h
+
+    go : (t : Bool) → eqb (refusal r c) 0 ≡ t → cond t (given r c) [] ≡ []
+    go true k = absurd (n (ap (λ (t : Bool). after (cond t (taken r c) r) cs .stage) k ∙ ap (λ (s : Reading). s .stage) (shut-stays r m h cs)))
+    go false k = refl
+
+pub none-given : (cs : List Call) (r : Reading) → NotClosed (after r cs) → closings r cs ≡ []
+none-given [] r n = refl
+none-given (c ∷ cs) r n = λ i. gives-none c cs r n i ++ none-given cs (next r c) n i
+
 -- ---- and soundly
 
 sound : (v : Standing) (end : ℤ) → pos 1 ≤ℤ lineLength (v .sections) → SoundClosing v end (closing (v .line .order) (v .line .start) end (v .sections))
@@ -150,6 +176,10 @@ every-list calls e =
       sound = sound (standing r) (f .end) (subst (λ (s : Reading). pos 1 ≤ℤ lineLength (standing s .sections)) (f .stays) (closed-long calls e));
       stays = f .stays;
     }
+
+-- the figures of a reading's line are those that its closing gave
+pub same-figures : (calls : List Call) (e : after freshReading calls .stage ≡ Closed) → figuresOf (after freshReading calls) ≡ every-list calls e .gave
+same-figures calls e = ap figuresOf (every-list calls e .stays) ∙ sym (every-list calls e .sound .figures)
 
 -- ---- refused calls
 

@@ -5,4 +5,5 @@ pub mod Drops
 pub mod Runs
 pub mod Whole
 pub mod Every
+pub mod Again
 pub mod Traced

@@ -16,7 +16,7 @@ use Rattle.adjust.specs.declared.Point.{Point}
 use Rattle.adjust.specs.declared.Summary.{Summary}
 use Rattle.adjust.specs.Sections.{sectionsOf}
 use Rattle.adjust.specs.Line.{Frame, pointsAfter, points, frameOf, Closing, closing}
-use Rattle.adjust.specs.Frames.{noPoint}
+use Rattle.adjust.specs.Frames.{noPoint, adjustedOf}
 use Rattle.adjust.specs.Call.{numberOf, answerOf}
 use Rattle.adjust.proofs.Refused.{number-of-answer}
 use Rattle.adjust.proofs.Holding.{sections-holding, holding-again, holding-none}
@@ -27,23 +27,14 @@ use Rattle.book.specs.declared.CloseOutcome.{CloseOutcome}
 use Rattle.book.specs.Standing.{Standing, standingOf, bookWith}
 use Rattle.book.specs.Rules.{Call, open-line, station, end-run, drop-run, drop-section, close-line, inputTests, stateTests, bookRefusal}
 use Rattle.book.specs.Rules as Rules
-use Rattle.book.specs.Calls.{freshBook, bookAfter, outcome, closingOf, closeNumber, closeValues, closeAnswerOf, closeOutcome, gaveOf}
+use Rattle.book.specs.Calls.{freshBook, bookAfter, outcome, closingOf, closeNumber, closeValues, closeAnswerOf, closeOutcome, gaveOf, figuresOf}
 use Rattle.ledger.specs.Plain.{Reading, freshReading, next, taken, refusal, after, refusals, given, closings, standing}
 use Rattle.ledger.specs.Claims.{ClosedOnce}
 use Rattle.ledger.specs.Trace.{FreshEnsures, Ensures, CloseEnsures, Trace, done, call, close, SoundTrace, EveryTrace}
 use Rattle.ledger.proofs.Follows.{follows}
-use Rattle.ledger.proofs.Whole.{Kept, next-kept, fresh-kept, same-refusal, no-shorter}
-use Rattle.ledger.proofs.Every.{every-list}
-
--- the book that holds what the plain reading's lists sum to
-abbrev pub bookOf : Reading → Book
-bookOf r = bookWith freshBook (standing r)
-
-holds-standing : (r : Reading) → standingOf (bookOf r) ≡ standing r
-holds-standing r = λ i. record { line = standing r .line; sections = sections-holding (freshBook .sections) (standing r .sections) i }
-
-pub fresh-holds : freshBook ≡ bookOf freshReading
-fresh-holds = λ i. record { line = freshBook .line; sections = sym (holding-none (freshBook .sections)) i }
+use Rattle.ledger.proofs.Whole.{Kept, next-kept, fresh-kept, calls-kept, same-refusal, no-shorter}
+use Rattle.ledger.proofs.Every.{every-list, same-figures, either, none-given}
+use Rattle.ledger.proofs.Again.{bookOf, holds-standing, fresh-holds, figures-again}
 
 -- ---- one call
 
@@ -112,17 +103,13 @@ ensured b drop-section o h = h
 ensured b (close-line number end) o h = absurd h
 
 -- a call that is no closing gives nothing beside
-none-given : (b : Book) (c : Call) (o : Outcome) → Ensures b c o → (r : Reading) → given r c ≡ []
-none-given b (open-line order instrument number height) o h r = refl
-none-given b (station kb kf readings) o h r = refl
-none-given b (end-run number) o h r = refl
-none-given b drop-run o h r = refl
-none-given b drop-section o h r = refl
-none-given b (close-line number end) o h r = absurd h
-
-either : {A : Type 0} (t : Bool) {x y : A} → x ≡ y → cond t x y ≡ y
-either true e = e
-either false e = refl
+nothing-beside : (b : Book) (c : Call) (o : Outcome) → Ensures b c o → (r : Reading) → given r c ≡ []
+nothing-beside b (open-line order instrument number height) o h r = refl
+nothing-beside b (station kb kf readings) o h r = refl
+nothing-beside b (end-run number) o h r = refl
+nothing-beside b drop-run o h r = refl
+nothing-beside b drop-section o h r = refl
+nothing-beside b (close-line number end) o h r = absurd h
 
 record Same (r : Reading) (calls : List Call) (ns : List ℕ) (gs : List Closing) (e : Book) : Type 0 where
   numbers : ns ≡ refusals r calls
@@ -138,7 +125,7 @@ traced r k p (call {b = b} {c = c} {cs = cs} o h t) =
     let answered = ap (λ (x : Outcome). numberOf (x .answer)) q ∙ number-of-answer (bookRefusal (standingOf (bookOf r)) c) ∙ number r k c in
     record {
       numbers = λ i. answered i ∷ rest .numbers i;
-      gave = rest .gave ∙ ap (λ (l : List Closing). l ++ closings (next r c) cs) (sym (either (eqb (refusal r c) 0) (none-given b c o h r)));
+      gave = rest .gave ∙ ap (λ (l : List Closing). l ++ closings (next r c) cs) (sym (either (eqb (refusal r c) 0) (nothing-beside b c o h r)));
       book = rest .book;
     }
 traced r k p (close {number = m} {end = end} {cs = cs} o h t) =
@@ -171,16 +158,36 @@ never-20 r (c ∷ cs) = λ i. first-without 20 (inputTests c ++ stateTests (stan
 
 -- ---- the claim
 
+-- the same closing, told of what the trace gave
+abbrev renamed : {calls : List Call} {xs ys : List Closing} → ys ≡ xs → ClosedOnce calls xs → ClosedOnce calls ys
+renamed p x =
+    record {
+      before = x .before;
+      number = x .number;
+      end = x .end;
+      later = x .later;
+      split = x .split;
+      accepted = x .accepted;
+      gave = x .gave;
+      once = p ∙ x .once;
+      sound = x .sound;
+      stays = x .stays;
+    }
+
 pub every-trace : EveryTrace
 every-trace b e calls ns gs f t =
     let s = traced freshReading fresh-kept (f ∙ fresh-holds) t in
     let r : Reading = after freshReading calls in
     let h : standingOf e ≡ standing r = ap standingOf (s .book) ∙ holds-standing r in
+    let stage : r .stage ≡ e .line .stage = sym (ap (λ (v : Standing). v .line .stage) h) in
     record {
       numbers = s .numbers;
       given = s .gave;
       holds = h;
       book = s .book;
       never-20 = subst (λ (l : List ℕ). anyOf (λ n. eqb n 20) l ≡ false) (sym (s .numbers)) (never-20 freshReading calls);
-      closed = λ c. subst (ClosedOnce calls) (sym (s .gave)) (every-list calls (sym (ap (λ (v : Standing). v .line .stage) h) ∙ c));
+      closed = λ c. renamed (s .gave) (every-list calls (stage ∙ c));
+      again =
+          λ c. ap figuresOf (s .book) ∙ figures-again r (calls-kept calls) (stage ∙ c) ∙ ap adjustedOf (same-figures calls (stage ∙ c));
+      unclosed = λ n. s .gave ∙ none-given calls freshReading (λ c. n (sym stage ∙ c));
     }

@@ -174,6 +174,10 @@ abbrev pub refusals : Reading → List Call → List ℕ
 refusals r [] = []
 refusals r (c ∷ cs) = refusal r c ∷ refusals (next r c) cs
 
+-- the figures of closing a reading's line on the end height that it keeps
+abbrev pub figuresOf : Reading → Closing
+figuresOf r = closing (r .order) (r .start) (r .end) (standing r .sections)
+
 -- what a call that is taken gives beside the book: a closing its figures, another call nothing
 abbrev pub given : Reading → Call → List Closing
 given r (open-line order instrument number height) = []
@@ -181,7 +185,7 @@ given r (station kb kf readings) = []
 given r (end-run number) = []
 given r drop-run = []
 given r drop-section = []
-given r (close-line number end) = closing (r .order) (r .start) end (standing r .sections) ∷ []
+given r (close-line number end) = figuresOf (taken r (close-line number end)) ∷ []
 
 -- what the closings taken in a list of calls gave, in order
 abbrev pub closings : Reading → List Call → List Closing

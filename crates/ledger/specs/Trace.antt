@@ -8,6 +8,7 @@ use lib.Dec.{eqb}
 use lib.IntN.{ℤ}
 use Rattle.numbers.specs.Whole.{anyOf}
 use Rattle.adjust.specs.Line.{Closing}
+use Rattle.adjust.specs.Frames.{adjustedOf}
 use Rattle.adjust.specs.Call.{numberOf}
 use Rattle.book.specs.declared.Stage.the-variants.{Closed}
 use Rattle.book.specs.declared.Book.{Book}
@@ -15,7 +16,7 @@ use Rattle.book.specs.declared.Outcome.{Outcome}
 use Rattle.book.specs.declared.CloseOutcome.{CloseOutcome}
 use Rattle.book.specs.Standing.{standingOf, bookWith}
 use Rattle.book.specs.Rules.{Call, open-line, station, end-run, drop-run, drop-section, close-line}
-use Rattle.book.specs.Calls.{freshBook, closeNumber, gaveOf}
+use Rattle.book.specs.Calls.{freshBook, closeNumber, gaveOf, figuresOf}
 use Rattle.book.proofs.fresh.Reads as fresh-reads
 use Rattle.book.proofs.calls.«open».Reads as open-reads
 use Rattle.book.proofs.calls.station.Reads as station-reads
@@ -63,6 +64,10 @@ pub record SoundTrace (calls : List Call) (ns : List ℕ) (gs : List Closing) (e
   pub never-20 : anyOf (λ n. eqb n 20) ns ≡ false
   -- a line that the calls left closed was closed once and soundly
   pub closed : e .line .stage ≡ Closed → ClosedOnce calls gs
+  -- and its figures can be had of the book again
+  pub again : (c : e .line .stage ≡ Closed) → figuresOf e ≡ adjustedOf (closed c .gave)
+  -- a line that they did not leave closed gave no closing
+  pub unclosed : (e .line .stage ≡ Closed → ⊥) → gs ≡ []
 
 abbrev pub EveryTrace : Type 0
 EveryTrace = (b e : Book) (calls : List Call) (ns : List ℕ) (gs : List Closing) → FreshEnsures b → Trace b calls ns gs e → SoundTrace calls ns gs e

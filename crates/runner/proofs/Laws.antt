@@ -20,7 +20,7 @@ use Rattle.ledger.specs.Plain.{Reading, freshReading, after, refusal, refusals,
 use Rattle.ledger.proofs.Drops.{after-append}
 use Rattle.ledger.proofs.Whole.{calls-kept}
 use Rattle.ledger.proofs.Traced as Traced
-use Rattle.ledger.proofs.Traced.{bookOf}
+use Rattle.ledger.proofs.Again.{bookOf}
 use Rattle.runner.specs.declared.Step.{Step}
 use Rattle.runner.specs.Calls.{argument, openOf, stationOf, closeOf, callOf, numbersAt, firstCalls, stepFrom, stepOf, written}
 

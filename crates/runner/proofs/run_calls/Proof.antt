@@ -10,7 +10,7 @@ use borrow.Author.Needs.{needs}
 use Rattle.book.specs.declared.Book.{Book}
 use Rattle.book.specs.Rules.{Call}
 use Rattle.ledger.specs.Plain.{freshReading, after, refusals}
-use Rattle.ledger.proofs.Traced.{bookOf, fresh-holds}
+use Rattle.ledger.proofs.Again.{bookOf, fresh-holds}
 use Rattle.runner.specs.declared.Step.{Step}
 use Rattle.runner.specs.Calls.{callOf, firstCalls, numbersAt, stepOf, written}
 use Rattle.runner.proofs.Laws.{calls-more, calls-long, next-book, number-written, number-left-out, written-none, written-long}
