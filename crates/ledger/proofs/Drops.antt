@@ -14,7 +14,7 @@ use Rattle.book.specs.declared.Stage.the-variants.{Open}
 use Rattle.book.specs.Standing.{isOpen, twoWay}
 use Rattle.book.specs.Rules.{Call, open-line, station, end-run, drop-run, drop-section, close-line}
 use Rattle.ledger.specs.Plain.{Reading, Awaited, after, next, taken, refusal, withLists}
-use Rattle.ledger.specs.Claims.{stationsOnly}
+use Rattle.ledger.specs.Claims.{stationsOnly, RunDropped, SectionDropped}
 
 pub after-append : (r : Reading) (xs ys : List Call) → after r (xs ++ ys) ≡ after (after r xs) ys
 after-append r [] ys = refl
@@ -69,9 +69,7 @@ drop-section-leaves =
 
 -- ---- so with an empty present list the reading is the one before
 
-pub run-dropped : (r : Reading) → r .stage ≡ Open → r .present ≡ []
-    → (stations : List Call) → stationsOnly stations ≡ true
-    → after r (stations ++ (drop-run ∷ [])) ≡ r
+pub run-dropped : RunDropped
 run-dropped r opened empty stations e = drop-run-leaves r opened stations e ∙ ap (unfinished r (r .waiting)) (sym empty)
 
 -- at third order an outward run that is ended waits, and one whose end is refused stays
@@ -89,10 +87,7 @@ outward-ended r third ps n =
     finished : Reading
     finished = withLists r (r .sections ++ (record { number = n; outward = ps; back = none } ∷ [])) none []
 
--- also where the end of the outward run is refused
-pub section-dropped : (r : Reading) → r .stage ≡ Open → r .order ≡ Third → r .waiting ≡ none → r .present ≡ []
-    → (out back : List Call) → stationsOnly out ≡ true → stationsOnly back ≡ true → (n : ℤ)
-    → after r (out ++ (end-run n ∷ (back ++ (drop-section ∷ [])))) ≡ r
+pub section-dropped : SectionDropped
 section-dropped r opened third idle empty out back e f n =
     let s = stations-add out e r in
     let k = outward-ended r third (s .0) n in

@@ -17,7 +17,7 @@ use Rattle.book.specs.declared.Stage.the-variants.{Closed}
 use Rattle.book.specs.Standing.{Standing}
 use Rattle.book.specs.Rules.{Call, open-line, station, end-run, drop-run, drop-section, close-line, inputTests}
 use Rattle.ledger.specs.Plain.{Reading, Awaited, freshReading, after, next, taken, refusal, standing, runEnded, figuresOf, given, closings}
-use Rattle.ledger.specs.Claims.{SoundClosing, EveryList, takenOnly}
+use Rattle.ledger.specs.Claims.{SoundClosing, EveryList, takenOnly, StruckOut}
 use Rattle.ledger.proofs.Follows.{recast}
 use Rattle.ledger.proofs.Whole.{open-not-closed, fresh-not-closed, closed-long}
 
@@ -204,8 +204,5 @@ same-taken (c ∷ cs) r = go (same-taken cs) (eqb (refusal r c) 0) refl
         × (closings r xs ≡ cond t (given r c) [] ++ closings (cond t (taken r c) r) cs))
         (sym e) (g r)
 
--- a list without its refused calls leaves the same, and its closings give the same
-pub struck-out : (calls : List Call)
-    → (after freshReading (takenOnly freshReading calls) ≡ after freshReading calls)
-    × (closings freshReading (takenOnly freshReading calls) ≡ closings freshReading calls)
+pub struck-out : StruckOut
 struck-out calls = same-taken calls freshReading

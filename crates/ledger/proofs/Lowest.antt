@@ -7,7 +7,7 @@ use Rattle.numbers.specs.Tables.{Lowest}
 use Rattle.numbers.proofs.Tables.{numbered, AllFail, all-fail, rises, first-lowest}
 use Rattle.book.specs.Standing.{Standing, broken}
 use Rattle.book.specs.Rules.{Call, open-line, station, end-run, drop-run, drop-section, close-line, inputTests, stateTests, refusal, bookRefusal}
-use Rattle.ledger.specs.Claims.{before30}
+use Rattle.ledger.specs.Claims.{before30, LowestGiven}
 
 -- ---- the tables, each computed for every standing list at once
 
@@ -53,7 +53,7 @@ lowest v c = first-lowest before30 (inputTests c ++ stateTests v c) 0 (rising v 
 pub lowest-number : (v : Standing) (c : Call) → ((n : ℤ) → c ≡ end-run n → ⊥) → Lowest (λ n. n) (inputTests c ++ stateTests v c) (refusal v c)
 lowest-number v c k = first-lowest (λ n. n) (inputTests c ++ stateTests v c) 0 (number-rising v c k)
 
-pub book-lowest : (v : Standing) (c : Call) → Lowest before30 (inputTests c ++ ((20, broken v) ∷ stateTests v c)) (bookRefusal v c)
+pub book-lowest : LowestGiven
 unfolding bookRefusal
 book-lowest v c = first-lowest before30 (inputTests c ++ ((20, broken v) ∷ stateTests v c)) 0 (book-rising v c)
 

@@ -4,15 +4,18 @@ use mathlib.Core.Path.{_≡_}
 use mathlib.Core.Bool.{Bool, true, false, cond, _&&_}
 use mathlib.Core.List.{List, [], _∷_, _++_}
 use Prim.Native.Nat.{ℕ}
+use mathlib.Core.Option.{none}
 use lib.Dec.{eqb}
 use lib.IntN.{ℤ, pos, negℤ}
 use lib.Signed.{_≤ℤ_}
+use Rattle.numbers.specs.Tables.{Lowest}
+use Rattle.station.specs.declared.Order.the-variants.{Third}
 use Rattle.adjust.specs.declared.Point.{Point}
 use Rattle.adjust.specs.Line.{frameOf, Closing, closing}
 use Rattle.adjust.specs.Claims.{Near, corrections, lastHeight}
-use Rattle.book.specs.declared.Stage.the-variants.{Closed}
-use Rattle.book.specs.Standing.{Standing}
-use Rattle.book.specs.Rules.{Call, open-line, station, end-run, drop-run, drop-section, close-line}
+use Rattle.book.specs.declared.Stage.the-variants.{Open, Closed}
+use Rattle.book.specs.Standing.{Standing, broken}
+use Rattle.book.specs.Rules.{Call, open-line, station, end-run, drop-run, drop-section, close-line, inputTests, stateTests, bookRefusal}
 use Rattle.ledger.specs.Plain.{Reading, freshReading, after, next, taken, refusal, standing, closings}
 
 -- ---- a closing
@@ -58,6 +61,10 @@ EveryList = (calls : List Call) → after freshReading calls .stage ≡ Closed �
 abbrev pub before30 : ℕ → ℕ
 before30 n = cond (eqb n 31) 30 (cond (eqb n 30) 31 n)
 
+-- a book answers the lowest number that applies
+abbrev pub LowestGiven : Type 0
+LowestGiven = (v : Standing) (c : Call) → Lowest before30 (inputTests c ++ ((20, broken v) ∷ stateTests v c)) (bookRefusal v c)
+
 -- ---- refused calls, and stations that are dropped
 
 -- the calls of a list that are taken
@@ -77,3 +84,23 @@ isStation (close-line number end) = false
 abbrev pub stationsOnly : List Call → Bool
 stationsOnly [] = true
 stationsOnly (c ∷ cs) = isStation c && stationsOnly cs
+
+-- a list without its refused calls leaves the same, and its closings give the same
+abbrev pub StruckOut : Type 0
+StruckOut =
+    (calls : List Call)
+    → (after freshReading (takenOnly freshReading calls) ≡ after freshReading calls)
+    × (closings freshReading (takenOnly freshReading calls) ≡ closings freshReading calls)
+
+-- stations of a run that is dropped: the reading is the one before them
+abbrev pub RunDropped : Type 0
+RunDropped =
+    (r : Reading) → r .stage ≡ Open → r .present ≡ [] → (stations : List Call) → stationsOnly stations ≡ true
+    → after r (stations ++ (drop-run ∷ [])) ≡ r
+
+-- and of a section that is dropped, out and back, also where the end of its outward run is refused
+abbrev pub SectionDropped : Type 0
+SectionDropped =
+    (r : Reading) → r .stage ≡ Open → r .order ≡ Third → r .waiting ≡ none → r .present ≡ []
+    → (out back : List Call) → stationsOnly out ≡ true → stationsOnly back ≡ true → (n : ℤ)
+    → after r (out ++ (end-run n ∷ (back ++ (drop-section ∷ [])))) ≡ r
