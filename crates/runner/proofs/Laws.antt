@@ -129,13 +129,13 @@ refusals-long r (d ∷ cs) = ap suc (refusals-long (next r d) cs)
 
 -- ---- a list written over another as far as it has places
 
-written-set : {A : Type 0} (xs ys : List A) (x : A) → length xs < length ys → set (written xs ys) (length xs) x ≡ written (xs ++ (x ∷ [])) ys
+pub written-set : {A : Type 0} (xs ys : List A) (x : A) → length xs < length ys → set (written xs ys) (length xs) x ≡ written (xs ++ (x ∷ [])) ys
 written-set xs [] x h = absurd (omega arith)
 written-set [] (y ∷ []) x h = refl
 written-set [] (y ∷ (z ∷ ys)) x h = refl
 written-set (z ∷ xs) (y ∷ ys) x h = ap (λ (l : List _). z ∷ l) (written-set xs ys x (omega arith))
 
-written-past : {A : Type 0} (xs ys : List A) (x : A) → length ys ≤ length xs → written (xs ++ (x ∷ [])) ys ≡ written xs ys
+pub written-past : {A : Type 0} (xs ys : List A) (x : A) → length ys ≤ length xs → written (xs ++ (x ∷ [])) ys ≡ written xs ys
 written-past [] [] x h = refl
 written-past [] (y ∷ ys) x h = absurd (omega arith)
 written-past (z ∷ xs) [] x h = refl

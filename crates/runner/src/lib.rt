@@ -6,11 +6,14 @@ ghost use Rattle.book.specs.Standing.{bookWith};
 ghost use Rattle.book.specs.Calls.{closeNumber, freshBook};
 ghost use Rattle.ledger.specs.Plain.{freshReading, after, refusals, standing};
 ghost use Rattle.runner.specs.Calls.{openOf, stationOf, closeOf, callOf, callsOf, stepFrom, stepOf, written};
+ghost use Rattle.runner.specs.Figures.{bookFigures};
 use adjust::entry::number_of;
 use book::Book;
 use book::CloseAnswer;
 use book::Outcome;
 use book::calls;
+
+mod figures;
 
 // What a call answers, by document 01's number, and the book that it leaves.
 pub struct Step {
@@ -130,4 +133,16 @@ pub fn run_calls(calls: &[i64], numbers: &mut [u8]) -> Book
         k += 1;
     }
     b
+}
+
+// The same for C and Rust, where each list is a pointer and a length: the figures of the book that the calls leave go into the second lent list,
+// as far as it has places.
+#[no_mangle]
+pub extern "C" fn level_run(calls: &[i64], numbers: &mut [u8], figures: &mut [i64])
+    ensures { λ _. ⌜ (now (numbers .exit) ≡ written (refusals freshReading (callsOf (now (calls .entry)))) (now (numbers .entry)))
+        × (now (figures .exit)
+        ≡ written (bookFigures (bookWith freshBook (standing (after freshReading (callsOf (now (calls .entry))))))) (now (figures .entry))) ⌝ }
+{
+    let b = run_calls(calls, numbers);
+    figures::write_figures(b, figures)
 }
