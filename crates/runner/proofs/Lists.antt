@@ -21,7 +21,7 @@ use Rattle.book.specs.Rules.{Call}
 use Rattle.book.specs.Calls.{figuresOf}
 use Rattle.ledger.specs.Plain.{freshReading, after}
 use Rattle.ledger.proofs.Whole.{calls-kept}
-use Rattle.ledger.proofs.Traced.{bookOf}
+use Rattle.ledger.proofs.Again.{bookOf}
 use Rattle.runner.specs.Calls.{written}
 use Rattle.runner.specs.Figures.{pointFigures}
 use Rattle.runner.proofs.Laws.{written-set, written-past}

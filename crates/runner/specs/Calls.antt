@@ -1,5 +1,5 @@
 -- Calls in a list of numbers, 11 a call: its kind, then its arguments; numbers that its kind does not use are not looked at.
--- 1 open: order, instrument, start number and height. 2 station: the constants, back and fore, then the readings, four back and four fore.
+-- 1 open: order, instrument, start number and height. 2 station: the constant and the four readings of the back staff, then of the fore staff.
 -- 3 end run: the number. 4 drop run. 5 drop section. 6 close: the last number and the end height.
 use mathlib.Core.Path.{_≡_, refl}
 use mathlib.Core.Bool.{cond}
@@ -30,7 +30,7 @@ abbrev pub openOf : List ℤ → Call
 openOf xs = open-line (argument xs 1) (argument xs 2) (argument xs 3) (argument xs 4)
 
 abbrev pub stationOf : List ℤ → Call
-stationOf xs = station (argument xs 1) (argument xs 2) (readings xs 3 ∷ readings xs 7 ∷ [])
+stationOf xs = station (argument xs 1) (argument xs 6) (readings xs 2 ∷ readings xs 7 ∷ [])
 
 abbrev pub closeOf : List ℤ → Call
 closeOf xs = close-line (argument xs 1) (argument xs 2)
@@ -81,7 +81,7 @@ nothingMore = pos 0 ∷ pos 0 ∷ pos 0 ∷ pos 0 ∷ pos 0 ∷ pos 0 ∷ []
 abbrev pub example : List ℤ
 example =
     pos 1 ∷ pos 4 ∷ pos 3 ∷ pos 1 ∷ pos 10000 ∷ nothingMore
-    ++ (pos 2 ∷ pos 4687 ∷ pos 4787 ∷ pos 1571 ∷ pos 1197 ∷ pos 1384 ∷ pos 6171 ∷ pos 739 ∷ pos 363 ∷ pos 551 ∷ pos 5239 ∷ [])
+    ++ (pos 2 ∷ pos 4687 ∷ pos 1571 ∷ pos 1197 ∷ pos 1384 ∷ pos 6171 ∷ pos 4787 ∷ pos 739 ∷ pos 363 ∷ pos 551 ∷ pos 5239 ∷ [])
     ++ (pos 6 ∷ pos 2 ∷ negsuc 0 ∷ pos 0 ∷ pos 0 ∷ nothingMore)
     ++ (pos 7 ∷ pos 2 ∷ pos 0 ∷ pos 0 ∷ pos 0 ∷ nothingMore)
     ++ (pos 4 ∷ [])

@@ -51,9 +51,9 @@ fn open_step(b: Book, call: [i64; 11]) -> Step
 fn station_step(b: Book, call: [i64; 11]) -> Step
     ensures { λ r. ⌜ r ≡ stepOf b (stationOf call) ⌝ }
 {
-    let back = [call[3], call[4], call[5], call[6]];
+    let back = [call[2], call[3], call[4], call[5]];
     let fore = [call[7], call[8], call[9], call[10]];
-    step_of(calls::station(b, call[1], call[2], [back, fore]))
+    step_of(calls::station(b, call[1], call[6], [back, fore]))
 }
 
 fn close_step(b: Book, call: [i64; 11]) -> Step

@@ -48,17 +48,17 @@ station-requires c κs = search needs
 step-of-requires : tie.Need-step-of-requires
 step-of-requires c κs = search needs
 
-third : (c : tie.After-station-arg) → SFits w64 (argument (c .before .args .t2) 3)
+second : (c : tie.After-station-arg) → SFits w64 (argument (c .before .args .t2) 2)
+second c = search needs
+
+third : (c : tie.After-station-arg2) → SFits w64 (argument (c .before .before .args .t2) 3)
 third c = search needs
 
-fourth : (c : tie.After-station-arg2) → SFits w64 (argument (c .before .before .args .t2) 4)
+fourth : (c : tie.After-t14) → SFits w64 (argument (c .before .before .before .args .t2) 4)
 fourth c = search needs
 
-fifth : (c : tie.After-t14) → SFits w64 (argument (c .before .before .before .args .t2) 5)
+fifth : (c : tie.After-t17) → SFits w64 (argument (c .before .before .before .before .args .t2) 5)
 fifth c = search needs
-
-sixth : (c : tie.After-t17) → SFits w64 (argument (c .before .before .before .before .args .t2) 6)
-sixth c = search needs
 
 seventh : (c : tie.After-station-arg3) → SFits w64 (argument (c .before .before .before .before .before .args .t2) 7)
 seventh c = search needs
@@ -75,8 +75,8 @@ tenth c = search needs
 first : (c : tie.After-station-arg5) → SFits w64 (argument (c .before .before .before .before .before .before .before .before .before .args .t2) 1)
 first c = search needs
 
-second : (c : tie.After-station-arg6) → SFits w64 (argument (c .before .before .before .before .before .before .before .before .before .before .args .t2) 2)
-second c = search needs
+sixth : (c : tie.After-station-arg6) → SFits w64 (argument (c .before .before .before .before .before .before .before .before .before .before .args .t2) 6)
+sixth c = search needs
 
 returns : tie.Need-returns
 returns c =
@@ -85,8 +85,8 @@ returns c =
     by-outcome (s .args .b) (stationOf (s .args .t2)) (c .step-of .ensures)
     (c .before .station .ensures
     ∙ (λ i. outcome (s .args .b)
-    (station (stored-id (first (a .before)) i) (stored-id (second a) i)
-    ((stored-id (third (a .before .before .before .before .before .before .before .before .before)) i ∷ stored-id (fourth (a .before .before .before .before .before .before .before .before)) i ∷ stored-id (fifth (a .before .before .before .before .before .before .before)) i ∷ stored-id (sixth (a .before .before .before .before .before .before)) i ∷ [])
+    (station (stored-id (first (a .before)) i) (stored-id (sixth a) i)
+    ((stored-id (second (a .before .before .before .before .before .before .before .before .before)) i ∷ stored-id (third (a .before .before .before .before .before .before .before .before)) i ∷ stored-id (fourth (a .before .before .before .before .before .before .before)) i ∷ stored-id (fifth (a .before .before .before .before .before .before)) i ∷ [])
     ∷ (stored-id (seventh (a .before .before .before .before .before)) i ∷ stored-id (eighth (a .before .before .before .before)) i ∷ stored-id (ninth (a .before .before .before)) i ∷ stored-id (tenth (a .before .before)) i ∷ []) ∷ []))))
 
 pub station-step-spec : {M : Type 1} → statement M
