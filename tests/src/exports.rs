@@ -4,6 +4,7 @@ extern "C" {
     fn level_round_half_even(n: i64, d: i64) -> i64;
     fn level_root_within(a: u16, x: i64, b: u16, l: i64) -> bool;
     fn level_adjust(legs: *const Leg, count: usize, start: i64, end: i64, heights: *mut i64, places: usize) -> u8;
+    fn level_run(calls: *const i64, count: usize, numbers: *mut u8, answers: usize, figures: *mut i64, places: usize);
 }
 
 /// The nearest whole number to n / d, a tie going to the even one.
@@ -30,4 +31,10 @@ pub struct Leg {
 pub fn adjust(start: i64, end: i64, legs: &[Leg], heights: &mut [i64]) -> u8 {
     // SAFETY: the function takes slices of every length, each as a pointer and a length; it reads the one and writes the other within their lengths.
     unsafe { level_adjust(legs.as_ptr(), legs.len(), start, end, heights.as_mut_ptr(), heights.len()) }
+}
+
+/// A list of calls on a fresh book, 11 numbers a call: each call's number into `numbers`, the figures of the book that is left into `figures`.
+pub fn run(calls: &[i64], numbers: &mut [u8], figures: &mut [i64]) {
+    // SAFETY: the function takes slices of every length, each as a pointer and a length; it reads the one and writes the others within their lengths.
+    unsafe { level_run(calls.as_ptr(), calls.len(), numbers.as_mut_ptr(), numbers.len(), figures.as_mut_ptr(), figures.len()) }
 }

@@ -1,13 +1,21 @@
 //! Another implementation of the levelling book, written from document 01 alone, and safe names for the proved functions, so that tests compare the two.
 //!
-//! The other implementation: `fraction`, `station`, `rules`, `plain`, `standing`, `adjust`. Inputs for comparisons: `random`, `lent`.
+//! The other implementation: `fraction`, `station`, `rules`, `plain`, `standing`, `adjust`. Inputs for comparisons: `random`, `lent`, and for lists of
+//! calls `shoot`, `party`, `aim`, `trouble`, `work`, `generate`, `mutate`.
 
 pub mod adjust;
+pub mod aim;
 pub mod exports;
 pub mod fraction;
+pub mod generate;
 pub mod lent;
+pub mod mutate;
+pub mod party;
 pub mod plain;
 pub mod random;
 pub mod rules;
+pub mod shoot;
 pub mod standing;
 pub mod station;
+pub mod trouble;
+pub mod work;

@@ -1,0 +1,212 @@
+//! Lists of calls that are worth comparing: lines of both orders and both
+//! instruments that reach the limits of document 01, and changed lists.
+
+use crate::mutate::mutate;
+use crate::party::{Party, Style};
+use crate::plain::Call;
+use crate::random::Random;
+use crate::rules::{limits, longest_line, SECTIONS_OF_A_LINE, STATIONS_OF_A_RUN};
+
+/// What a line is to show.
+#[derive(Clone, Copy, Debug, PartialEq, Eq)]
+pub enum Kind {
+    /// One to six sections.
+    Usual,
+    /// A loop of two to six sections.
+    Loop,
+    /// About 20 sections of third order with T about 3,600 n.
+    Verdict,
+    /// About as many sections as a line may have, and some above.
+    Many,
+    /// A length at or beyond its limit, runs of 200 stations.
+    Long,
+    /// Heights below -9,999,999 mm (some thousand calls).
+    Deep,
+    /// A W whose square times 625 passes 64 bits (some ten thousand calls).
+    Steep,
+}
+
+/// A list of calls: a line of any kind, one in three with changes.
+pub fn book(random: &mut Random) -> Vec<Call> {
+    let kind = match random.below(4_000) {
+        0 => Kind::Steep,
+        1..=4 => Kind::Deep,
+        5..=80 => Kind::Long,
+        81..=240 => Kind::Many,
+        241..=360 => Kind::Verdict,
+        361..=1_160 => Kind::Loop,
+        _ => Kind::Usual,
+    };
+    let mut calls = line(random, kind);
+    if random.chance(1, 3) {
+        mutate(random, &mut calls, 6);
+    }
+    calls
+}
+
+/// A list of calls that fits a text book of at most this many calls.
+pub fn short_book(random: &mut Random, most: usize) -> Vec<Call> {
+    loop {
+        let calls = book(random);
+        if calls.len() <= most {
+            return calls;
+        }
+    }
+}
+
+/// A line of one kind, not changed.
+pub fn line(random: &mut Random, kind: Kind) -> Vec<Call> {
+    let style = style(random, kind);
+    let mut party = Party::new(random, style);
+    party.set_out();
+    match kind {
+        Kind::Usual => usual_line(&mut party, false),
+        Kind::Loop => usual_line(&mut party, true),
+        Kind::Verdict => line_of_short_sections(&mut party, 18, 25),
+        Kind::Many => line_of_short_sections(&mut party, SECTIONS_OF_A_LINE as i64 - 2, 67),
+        Kind::Long => long_line(&mut party),
+        Kind::Deep => deep_line(&mut party),
+        Kind::Steep => steep_line(&mut party),
+    }
+    party.close();
+    party.afterwards();
+    party.calls
+}
+
+fn style(random: &mut Random, kind: Kind) -> Style {
+    let order = match kind {
+        Kind::Verdict | Kind::Steep => 3,
+        Kind::Deep => 4,
+        _ => random.between(3, 4),
+    };
+    let instrument = *random.pick(&[3, 1]);
+    let most = limits(order, instrument).sight as i64;
+    let sight = match (kind, random.below(4)) {
+        (Kind::Long, _) => most - 10,
+        (Kind::Deep | Kind::Steep, _) => 12,
+        (Kind::Verdict, _) => random.between(60, 400),
+        (_, 0) => random.between(2, 20),
+        (_, 1) => random.between(most - 40, most),
+        _ => random.between(20, 400),
+    };
+    let trouble = match kind {
+        Kind::Deep | Kind::Steep => 0,
+        Kind::Long => *random.pick(&[0, 200, 1_000]),
+        Kind::Many | Kind::Verdict => *random.pick(&[0, 40, 200]),
+        _ => *random.pick(&[0, 0, 4, 8, 8, 16, 16, 40]),
+    };
+    Style {
+        order,
+        instrument,
+        sight,
+        relief: *random.pick(&[0, 10, 100, 400, 1_500]),
+        equal: kind != Kind::Verdict && random.chance(1, 4),
+        verdict: kind == Kind::Verdict,
+        trouble,
+    }
+}
+
+/// An even count of stations, mostly small; the same one throughout a line of
+/// equal sights.
+fn stations(party: &mut Party, usual: i64) -> usize {
+    let count = if party.style.equal {
+        usual
+    } else if party.random.chance(1, 40) {
+        party.random.between(5, 20)
+    } else {
+        party.random.between(1, usual)
+    };
+    2 * count as usize
+}
+
+/// One to six sections; a loop comes back to the start number.
+fn usual_line(party: &mut Party, is_loop: bool) {
+    let sections = party.random.between(if is_loop { 2 } else { 1 }, 6);
+    let usual = party.random.between(1, 4);
+    for k in 1..=sections {
+        let shuts = is_loop && k == sections;
+        let mut count = stations(party, usual);
+        let mut number = party.new_number();
+        if shuts && !party.reading.sections.is_empty() {
+            number = party.opened().start;
+            count = party.stations_to_shut(count);
+        }
+        if !party.section(number, count, shuts) && party.random.chance(1, 2) {
+            let again = party.new_number();
+            party.section(again, count, false);
+        }
+    }
+    if is_loop && party.troubled() {
+        let beyond = party.new_number();
+        party.section(beyond, 2, false);
+    }
+}
+
+/// Many sections of two stations, one in six lines a loop.
+fn line_of_short_sections(party: &mut Party, fewest: i64, most: i64) {
+    let sections = party.random.between(fewest, most);
+    let is_loop = party.random.chance(1, 6);
+    for k in 1..=sections {
+        let last = k == sections.min(SECTIONS_OF_A_LINE as i64);
+        if is_loop && last {
+            let start = party.opened().start;
+            let count = party.stations_to_shut(2);
+            party.section(start, count, true);
+        } else {
+            let known = k > SECTIONS_OF_A_LINE as i64 && party.random.chance(1, 2);
+            let number = if known { party.doubtful_number() } else { party.new_number() };
+            party.section(number, 2, false);
+        }
+    }
+}
+
+/// Sections of 200 stations up to a length at, inside or beyond the limit.
+fn long_line(party: &mut Party) {
+    let is_loop = party.random.chance(1, 2);
+    let longest = longest_line(party.opened().order, is_loop) as i64;
+    let off = *party.random.pick(&[0, 0, 0, 2, 2, 1, -1, -2, 40_000, -40_000]);
+    party.style.relief = party.style.relief.min(10);
+    let one_station = 4 * party.table().sight;
+    for _ in 0..12 {
+        let (_, done) = party.line_sums();
+        let rest = longest + off - done;
+        let fits = rest <= one_station * STATIONS_OF_A_RUN as i64;
+        let needed = (rest.max(1) + one_station - 1) / one_station;
+        let count = if fits { 2 * (needed as usize).div_ceil(2) } else { STATIONS_OF_A_RUN };
+        let full = done + one_station * (STATIONS_OF_A_RUN as i64) * 97 / 100;
+        party.length = Some(if fits { longest + off } else { full });
+        let shuts = fits && is_loop && done > 0;
+        let number = if shuts { party.opened().start } else { party.new_number() };
+        if party.section(number, count, shuts) && fits {
+            break;
+        }
+    }
+    party.length = None;
+}
+
+/// Down below -9,999,999 mm and up again.
+fn deep_line(party: &mut Party) {
+    let sections = party.random.between(18, 31);
+    let steep = 5_900 * STATIONS_OF_A_RUN as i64;
+    for k in 0..2 * sections {
+        party.climb = Some(if k < sections { -steep } else { steep });
+        let number = party.new_number();
+        party.section(number, STATIONS_OF_A_RUN, false);
+    }
+    party.climb = None;
+}
+
+/// Up (or down) all the way, with closings that miss by kilometres.
+fn steep_line(party: &mut Party) {
+    let turn = party.random.sign(1);
+    party.climb = Some(turn * 5_900 * STATIONS_OF_A_RUN as i64);
+    for _ in 0..SECTIONS_OF_A_LINE {
+        let number = party.new_number();
+        party.section(number, STATIONS_OF_A_RUN, false);
+    }
+    party.climb = None;
+    let number = party.reading.section_begin(party.opened().start);
+    for height in [-999_999, 8_999_999] {
+        party.put(Call::CloseLine { number, height });
+    }
+}

@@ -1,0 +1,139 @@
+//! Lists of calls run by the proved book, compared with the other implementation's plain reading of them.
+use std::collections::BTreeMap;
+
+use level_tests::exports;
+use level_tests::fraction::narrow;
+use level_tests::generate::book;
+use level_tests::mutate::any_call;
+use level_tests::plain::{Answer, Call, Closing, Reading};
+use level_tests::random::Random;
+use level_tests::station::{accumulated_d, sum_of_heights, sum_of_sights};
+
+/// The figures of a book: W, L, n, T, verdict, five of the line, and four of each of 65 points.
+const FIGURES: usize = 10 + 4 * 65;
+
+/// A call's numbers; those that its kind does not use are anything.
+fn numbers_of(random: &mut Random, call: &Call) -> [i64; 11] {
+    let mut numbers = [0; 11].map(|_: i64| random.next() as i64);
+    let used = match *call {
+        Call::Open { order, instrument, start, height } => vec![1, order, instrument, start, height],
+        Call::Station { back_k, fore_k, readings } => [vec![2, back_k, fore_k], readings.concat()].concat(),
+        Call::EndRun(number) => vec![3, number],
+        Call::DropRun => vec![4],
+        Call::DropSection => vec![5],
+        Call::CloseLine { number, height } => vec![6, number, height],
+    };
+    numbers[..used.len()].copy_from_slice(&used);
+    numbers
+}
+
+/// A kind that is no call's.
+fn no_kind(random: &mut Random) -> i64 {
+    *random.pick(&[0, 7, 8, -1, -2, 257, 258, (1 << 32) + 1, (1 << 62) + 2, i64::MAX, i64::MIN, i64::MIN + 3])
+}
+
+/// What the plain reading is left with, as the figures of a book.
+fn figures_of(reading: &Reading, closed: &Option<Closing>) -> Vec<i64> {
+    let mut figures = vec![0; FIGURES];
+    if let Some(closing) = closed {
+        figures[..5].copy_from_slice(&[closing.w, closing.l, closing.n, closing.t, closing.verdict]);
+        for (k, point) in closing.points.iter().enumerate() {
+            figures[10 + 4 * k..14 + 4 * k].copy_from_slice(&[point.number, point.distance, point.correction, point.height]);
+        }
+    }
+    figures[5] = reading.run.len() as i64;
+    figures[6] = narrow(sum_of_heights(&reading.run));
+    figures[7] = narrow(sum_of_sights(&reading.run));
+    figures[8] = narrow(accumulated_d(&reading.run));
+    figures[9] = reading.sections.len() as i64;
+    figures
+}
+
+/// A list over another's first places, as far as it has places.
+fn over<T: Copy>(list: &[T], old: &[T]) -> Vec<T> {
+    let mut written = old.to_vec();
+    let places = list.len().min(old.len());
+    written[..places].copy_from_slice(&list[..places]);
+    written
+}
+
+/// Runs a list of calls both ways, and counts the numbers answered; 0 of a closing counts as 100.
+fn compare(random: &mut Random, calls: &[Call], counts: &mut BTreeMap<u8, u64>) {
+    let mut reading = Reading::fresh();
+    let mut closed = None;
+    let mut expected = Vec::new();
+    let mut list = Vec::new();
+    for call in calls {
+        let mut numbers = numbers_of(random, call);
+        if *call == Call::EndRun(0) {
+            let none = no_kind(random);
+            numbers[0] = *random.pick(&[3, none]);
+        }
+        list.extend(numbers);
+        let number = match reading.apply(call) {
+            Answer::Refused(number) => number,
+            Answer::Taken => 0,
+            Answer::Closed(closing) => {
+                assert_eq!(closed.replace(closing), None, "closed twice: {calls:?}");
+                *counts.entry(100).or_default() += 1;
+                0
+            }
+        };
+        *counts.entry(number).or_default() += 1;
+        expected.push(number);
+    }
+    for _ in 0..random.below(11) {
+        list.push(random.between(0, 7));
+    }
+    let places = *random.pick(&[calls.len(), calls.len(), calls.len() + 3, calls.len() / 2]);
+    let answers = vec![99u8; places];
+    let room = vec![-7i64; *random.pick(&[FIGURES, FIGURES, FIGURES + 5, 10, 13])];
+    let (mut given, mut figures) = (answers.clone(), room.clone());
+    exports::run(&list, &mut given, &mut figures);
+    assert_eq!(given, over(&expected, &answers), "{calls:?}");
+    assert_eq!(figures, over(&figures_of(&reading, &closed), &room), "{calls:?}");
+}
+
+#[test]
+fn hundred_thousand_lists() {
+    let mut random = Random::new(20_261_116);
+    let mut counts = BTreeMap::new();
+    for _ in 0..100_000 {
+        let mut calls = book(&mut random);
+        if random.chance(1, 4) {
+            let place = random.below(calls.len() as u64 + 1) as usize;
+            calls.insert(place, Call::EndRun(0));
+        }
+        if random.chance(1, 3) {
+            calls.truncate(random.below(calls.len() as u64 + 1) as usize);
+        }
+        compare(&mut random, &calls, &mut counts);
+    }
+    println!("{counts:?}");
+    for number in (3..=8).chain(21..=36) {
+        assert!(counts.get(&number).is_some_and(|&count| count >= 20), "too few of {number}: {counts:?}");
+    }
+    assert_eq!(counts.get(&20), None);
+    assert!(counts[&100] >= 30_000, "too few closings: {counts:?}");
+}
+
+/// Calls whose arguments are anything, in any order.
+#[test]
+fn lists_of_any_calls() {
+    let mut random = Random::new(16_112_026);
+    let mut counts = BTreeMap::new();
+    for _ in 0..20_000 {
+        let calls: Vec<Call> = (0..random.below(30)).map(|_| any_call(&mut random)).collect();
+        compare(&mut random, &calls, &mut counts);
+    }
+    assert_eq!(counts.get(&20), None);
+}
+
+#[test]
+fn no_calls() {
+    for length in 0..11 {
+        let mut figures = [5; FIGURES];
+        exports::run(&vec![1; length], &mut [], &mut figures);
+        assert_eq!(figures, [0; FIGURES]);
+    }
+}
