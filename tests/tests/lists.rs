@@ -17,7 +17,7 @@ fn numbers_of(random: &mut Random, call: &Call) -> [i64; 11] {
     let mut numbers = [0; 11].map(|_: i64| random.next() as i64);
     let used = match *call {
         Call::Open { order, instrument, start, height } => vec![1, order, instrument, start, height],
-        Call::Station { back_k, fore_k, readings } => [vec![2, back_k, fore_k], readings.concat()].concat(),
+        Call::Station { back_k, fore_k, readings } => [&[2, back_k], &readings[0][..], &[fore_k], &readings[1][..]].concat(),
         Call::EndRun(number) => vec![3, number],
         Call::DropRun => vec![4],
         Call::DropSection => vec![5],
