@@ -188,6 +188,6 @@ every-trace b e calls ns gs f t =
       never-20 = subst (λ (l : List ℕ). anyOf (λ n. eqb n 20) l ≡ false) (sym (s .numbers)) (never-20 freshReading calls);
       closed = λ c. renamed (s .gave) (every-list calls (stage ∙ c));
       again =
-          λ c. ap figuresOf (s .book) ∙ figures-again r (calls-kept calls) (stage ∙ c) ∙ ap adjustedOf (same-figures calls (stage ∙ c));
+          λ c x given. given ∙ ap figuresOf (s .book) ∙ figures-again r (calls-kept calls) (stage ∙ c) ∙ ap adjustedOf (same-figures calls (stage ∙ c));
       unclosed = λ n. s .gave ∙ none-given calls freshReading (λ c. n (sym stage ∙ c));
     }

@@ -7,6 +7,7 @@ use Prim.Native.Nat.{ℕ}
 use lib.Dec.{eqb}
 use lib.IntN.{ℤ}
 use Rattle.numbers.specs.Whole.{anyOf}
+use Rattle.adjust.specs.declared.Adjusted.{Adjusted}
 use Rattle.adjust.specs.Line.{Closing}
 use Rattle.adjust.specs.Frames.{adjustedOf}
 use Rattle.adjust.specs.Call.{numberOf}
@@ -16,7 +17,7 @@ use Rattle.book.specs.declared.Outcome.{Outcome}
 use Rattle.book.specs.declared.CloseOutcome.{CloseOutcome}
 use Rattle.book.specs.Standing.{standingOf, bookWith}
 use Rattle.book.specs.Rules.{Call, open-line, station, end-run, drop-run, drop-section, close-line}
-use Rattle.book.specs.Calls.{freshBook, closeNumber, gaveOf, figuresOf}
+use Rattle.book.specs.Calls.{freshBook, closeNumber, gaveOf}
 use Rattle.book.proofs.fresh.Reads as fresh-reads
 use Rattle.book.proofs.calls.«open».Reads as open-reads
 use Rattle.book.proofs.calls.station.Reads as station-reads
@@ -24,6 +25,7 @@ use Rattle.book.proofs.calls.end_run.Reads as end-run-reads
 use Rattle.book.proofs.calls.drop_run.Reads as drop-run-reads
 use Rattle.book.proofs.calls.drop_section.Reads as drop-section-reads
 use Rattle.book.proofs.calls.close_line.Reads as close-line-reads
+use Rattle.book.proofs.calls.figures_of.Reads as figures-of-reads
 use Rattle.ledger.specs.Plain.{freshReading, after, refusals, closings, standing}
 use Rattle.ledger.specs.Claims.{ClosedOnce}
 
@@ -42,6 +44,9 @@ Ensures b (close-line number end) r = ⊥
 
 abbrev pub CloseEnsures : Book → ℤ → ℤ → CloseOutcome → Type 0
 CloseEnsures b number end r = close-line-reads.Learnt tt (b, (number, (end, tt))) r (b, (number, (end, tt)))
+
+abbrev pub FiguresEnsures : Book → Adjusted → Type 0
+FiguresEnsures b x = figures-of-reads.Learnt tt (b, tt) x (b, tt)
 
 -- the calls made of a book, the numbers that they answered, what its closings gave and the book that was left
 pub data Trace : Book → List Call → List ℕ → List Closing → Book → Type 0 where
@@ -65,7 +70,7 @@ pub record SoundTrace (calls : List Call) (ns : List ℕ) (gs : List Closing) (e
   -- a line that the calls left closed was closed once and soundly
   pub closed : e .line .stage ≡ Closed → ClosedOnce calls gs
   -- and its figures can be had of the book again
-  pub again : (c : e .line .stage ≡ Closed) → figuresOf e ≡ adjustedOf (closed c .gave)
+  pub again : (c : e .line .stage ≡ Closed) (x : Adjusted) → FiguresEnsures e x → x ≡ adjustedOf (closed c .gave)
   -- a line that they did not leave closed gave no closing
   pub unclosed : (e .line .stage ≡ Closed → ⊥) → gs ≡ []
 

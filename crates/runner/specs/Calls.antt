@@ -22,7 +22,7 @@ use Rattle.runner.specs.declared.Step.{Step}
 abbrev pub argument : List ℤ → ℕ → ℤ
 argument xs k = getD xs k (pos 0)
 
--- upper, lower, middle and reversed, from place k on
+-- upper thread, lower thread, black middle and red middle, from place k on
 abbrev pub readings : List ℤ → ℕ → List ℤ
 readings xs k = argument xs k ∷ argument xs (k + 1) ∷ argument xs (k + 2) ∷ argument xs (k + 3) ∷ []
 

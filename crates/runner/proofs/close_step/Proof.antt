@@ -1,10 +1,10 @@
 -- `close_step` meets its contract.
-use mathlib.Core.Path.{_≡_, sym, ap, _∙_}
+use mathlib.Core.Path.{_∙_}
 use mir.Syntax.{w64}
 use mir.Val.{SFits}
 use Rattle.numbers.proofs.Machine.{stored-id}
 use Rattle.book.specs.Calls.{closeOutcome}
-use Rattle.runner.specs.Calls.{argument, closeOf}
+use Rattle.runner.specs.Calls.{argument}
 use Rattle.runner.proofs.Laws.{by-closing}
 use borrow.Author.Needs.{needs}
 use Rattle.runner.proofs.close_step.Statement.{statement}

@@ -1,7 +1,5 @@
 -- `level_run` meets its contract.
-use mathlib.Core.Path.{_≡_, ap, _∙_}
-use mathlib.Core.List.{List}
-use lib.IntN.{ℤ}
+use mathlib.Core.Path.{ap, _∙_}
 use Rattle.book.specs.declared.Book.{Book}
 use Rattle.runner.specs.Calls.{callsOf, written}
 use Rattle.runner.specs.Figures.{bookFigures}

@@ -1,19 +1,17 @@
 -- `run_call` meets its contract: the tests that were made say which kind of call the numbers are.
 use mathlib.Core.Path.{_≡_, sym, ap, _∙_}
 use mathlib.Core.Bool.{true, false}
-use Prim.Native.Nat.{ℕ}
-use lib.Dec.{eqb}
-use lib.IntN.{ℤ, pos}
+use lib.IntN.{pos}
 use borrow.Author.Tests.{eq-eqb, ne-eqb}
 use mir.Syntax.{w64}
-use mir.Val.{SFits, ofZ}
+use mir.Val.{SFits}
 use mir.Facts.{sfits-lit}
 use Rattle.numbers.specs.Whole.{eqZ}
 use Rattle.numbers.proofs.Equal.{eq-as}
 use Rattle.numbers.proofs.Machine.{stored-id}
-use Rattle.book.specs.Rules.{Call, end-run, drop-run, drop-section}
+use Rattle.book.specs.Rules.{end-run, drop-run, drop-section}
 use Rattle.book.specs.Calls.{outcome}
-use Rattle.runner.specs.Calls.{argument, callOf, stepOf}
+use Rattle.runner.specs.Calls.{argument, stepOf}
 use Rattle.runner.proofs.Laws.{by-outcome, kind-1, kind-2, kind-3, kind-4, kind-5, kind-6, no-kind}
 use borrow.Author.Needs.{needs}
 use Rattle.runner.proofs.run_call.Statement.{statement}

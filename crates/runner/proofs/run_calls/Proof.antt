@@ -1,11 +1,10 @@
 -- `run_calls` meets its contract: before call k the book and the numbers written are those of the first k calls.
-use Prim.Native.Nat.{ℕ, _≤_, _<_, _-_, _+_, _*_, _/_}
+use Prim.Native.Nat.{ℕ, _≤_, _<_, _-_, _+_, _/_}
 use native.Mathlib.Omega.{arith}
 use mathlib.Core.Path.{_≡_, sym, ap, subst, _∙_}
 use mathlib.Core.List.{List}
 use mathlib.Core.Logic.{⊎-elim}
 use lib.ListN.{length, set}
-use lib.IntN.{ℤ}
 use borrow.Author.Needs.{needs}
 use Rattle.book.specs.declared.Book.{Book}
 use Rattle.book.specs.Rules.{Call}

@@ -1,5 +1,4 @@
 -- `step_of` meets its contract.
-use mathlib.Core.Path.{_≡_}
 use borrow.Author.Needs.{needs}
 use Rattle.runner.proofs.step_of.Statement.{statement}
 use Rattle.runner.proofs.step_of.Tie as tie

@@ -1,5 +1,4 @@
 -- `head_of` meets its contract.
-use mathlib.Core.Path.{_≡_}
 use mathlib.Core.List.{[], _∷_}
 use native.Mathlib.Omega.{arith}
 use mir.Syntax.{w8, w64}

@@ -1,17 +1,16 @@
 -- `list_of` meets its contract: before point k the list holds the head and the figures of the first k points, and zeros.
 use mathlib.Core.Path.{_≡_, sym, ap, _∙_}
-use mathlib.Core.List.{List, [], _∷_, _++_, append-nil}
-use Prim.Native.Nat.{ℕ, _+_, _-_, _*_, _≤_, _<_}
+use mathlib.Core.List.{List, _++_, append-nil}
+use Prim.Native.Nat.{ℕ, _+_, _-_, _≤_, _<_}
 use native.Mathlib.Omega.{arith}
 use borrow.Author.Needs.{needs}
-use lib.ListN.{length, getD, set, take}
+use lib.ListN.{length, getD, take}
 use lib.IntN.{ℤ, pos}
 use mir.Syntax.{w64}
 use mir.Val.{SFits}
 use Rattle.numbers.specs.Whole.{filled}
 use Rattle.numbers.proofs.Filled.{filled-take}
 use Rattle.numbers.proofs.Machine.{stored-id}
-use Rattle.adjust.specs.declared.Point.{Point}
 use Rattle.adjust.specs.Frames.{noPoint}
 use Rattle.runner.specs.Figures.{pointFigures}
 use Rattle.runner.proofs.Lists.{upTo, up-to-next, up-to-all}

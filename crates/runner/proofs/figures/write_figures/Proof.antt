@@ -1,7 +1,7 @@
 -- `write_figures` meets its contract.
-use mathlib.Core.Path.{_≡_, sym, ap, subst, _∙_}
+use mathlib.Core.Path.{sym, ap, subst, _∙_}
 use mathlib.Core.List.{List, _++_}
-use Prim.Native.Nat.{ℕ, _≤_}
+use Prim.Native.Nat.{_≤_}
 use lib.IntN.{ℤ}
 use Rattle.adjust.specs.declared.Adjusted.{Adjusted}
 use Rattle.runner.specs.Calls.{written}
