@@ -142,6 +142,23 @@ fn lengths() {
     assert_eq!(after(&[at80, long(51), vec![end(1)]].concat(), &[close(1, 10_000)]), [35]);
 }
 
+/// The same at third order: 150 km, and a loop of 200 km.
+#[test]
+fn lengths_both_ways() {
+    let section = |from: i64, to: i64, sight: i64| {
+        let run = |k: i64| times(100, &level(k, 1_200 + sight, 1_200, 0, 0));
+        [run(4_787), vec![end(to)], run(4_687), vec![end(from)]].concat()
+    };
+    let at150 = (1..6).flat_map(|number| section(number, number + 1, 750)).collect::<Vec<Call>>();
+    let at150 = [vec![open(3)], at150].concat();
+    assert_eq!(after(&at150, &[close(6, 10_000)]), [0]);
+    let more = [at150.clone(), out(), vec![end(7)], back(), vec![end(6)]].concat();
+    assert_eq!(after(&more, &[close(7, 10_550)]), [35]);
+    let loop_of = |sight: i64| [at150.clone(), section(6, 7, 750), section(7, 1, sight)].concat();
+    assert_eq!(after(&loop_of(500), &[close(1, 10_000)]), [0]);
+    assert_eq!(after(&loop_of(501), &[close(1, 10_000)]), [35]);
+}
+
 /// Sections of R 5000, Q −6 and D 6, so that t is 3600: no verdict of 19; T exactly 3600 n of 20.
 #[test]
 fn verdicts() {
@@ -181,5 +198,21 @@ fn out_and_back() {
         vec![33, 0, 0, 0, 0],
     ]
     .concat();
+    assert_eq!(after(&[open(3)], &calls), wanted);
+}
+
+/// A loop is shut by its last return; then stations and ended runs get 21 and drops are accepted. Once it is closed every call gets 21, but for what its input alone causes.
+#[test]
+fn shut_loop() {
+    let [a, b] = <[Call; 2]>::try_from(out()).unwrap();
+    let [c, d] = <[Call; 2]>::try_from(back()).unwrap();
+    let (run, section) = (DROP_RUN.to_vec(), DROP_SECTION.to_vec());
+    let calls = [
+        vec![a.clone(), b.clone(), end(2), c.clone(), d.clone(), end(1), c, d, end(1), a.clone(), b, end(1), end(2)],
+        vec![a.clone(), end(3), run.clone(), section.clone(), close(2, 10_000), close(1, 10_001), close(1, 10_000)],
+        vec![open(3), a, end(3), run, section, close(1, 10_000), end(0)],
+    ]
+    .concat();
+    let wanted = [vec![0, 0, 0, 0, 0, 0, 0, 0, 0, 0, 0, 30, 0], vec![21, 21, 0, 0, 34, 34, 0], vec![21, 21, 21, 21, 21, 21, 4]].concat();
     assert_eq!(after(&[open(3)], &calls), wanted);
 }
