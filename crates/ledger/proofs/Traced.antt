@@ -59,7 +59,7 @@ module _ (r : Reading) (k : Kept (standing r)) (c : Call) where
 
 -- ---- what a closing gives
 
-points-length : (f : Frame) (q s h : ℤ) (ss : List Section) → length (pointsAfter f q s h ss) ≡ length ss
+pub points-length : (f : Frame) (q s h : ℤ) (ss : List Section) → length (pointsAfter f q s h ss) ≡ length ss
 points-length f q s h [] = refl
 points-length f q s h (x ∷ xs) = ap suc (points-length f _ _ _ xs)
 

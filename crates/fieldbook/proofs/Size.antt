@@ -1,0 +1,96 @@
+-- How many lines a report has: a section takes three lines of the text at least, so points never make up for more than the lines that were taken.
+use mathlib.Core.Path.{_≡_, refl, sym, ap, _∙_}
+use mathlib.Core.Bool.{Bool, true, false, not, cond, _||_}
+use mathlib.Core.List.{List, [], _∷_, _++_, map}
+use mathlib.Core.Option.{Option, none, some}
+use Prim.Native.Nat.{ℕ, zero, suc, _+_, _*_, _%_, _≤_}
+use native.Mathlib.Omega.{arith}
+use lib.Dec.{eqb, eqb→eq}
+use lib.ListN.{length, length-append}
+use lib.IntN.{ℤ}
+use Rattle.numbers.proofs.Tests.{by-test, no-true, or-l, or-r, not-false}
+use Rattle.station.specs.declared.Order.{Order}
+use Rattle.station.specs.declared.Order.the-variants.{Third, Fourth}
+use Rattle.station.specs.Station.{stationOf}
+use Rattle.columns.specs.declared.reader.Kind.{Kind}
+use Rattle.columns.specs.declared.reader.Kind.the-variants.{Record, Refused}
+use Rattle.columns.specs.declared.reader.Line.{Line}
+use Rattle.columns.specs.Records.{lineIn}
+use Rattle.book.specs.declared.Stage.{Stage}
+use Rattle.book.specs.declared.Stage.the-variants.{Fresh, Open, Closed}
+use Rattle.book.specs.Standing.{isOpen, isShut}
+use Rattle.book.specs.Rules.{Call, open-line, station, end-run, drop-run, drop-section, close-line}
+use Rattle.ledger.specs.Plain.{Reading, Awaited, refusal, taken, runEnded, standing}
+use Rattle.ledger.proofs.Lowest.{fails}
+use Rattle.ledger.proofs.Follows.{recast}
+use Rattle.fieldbook.specs.Text.{Refusal, callOf, lineRefusal, lineNext, refusalsFrom, readingAfter}
+
+-- ---- so many lines at least a reading has taken
+
+abbrev pub stageLines : Stage → ℕ
+stageLines Fresh = 0
+stageLines Open = 1
+stageLines Closed = 2
+
+abbrev pub waitingLines : Option Awaited → ℕ
+waitingLines none = 0
+waitingLines (some w) = 1 + length (w .outward)
+
+abbrev pub least : Reading → ℕ
+least r = stageLines (r .stage) + 3 * length (r .sections) + waitingLines (r .waiting) + length (r .present)
+
+-- a run that may end has two stations at least
+two-at-least : (n : ℕ) → eqb n 0 || eqb (n % 2) 1 ≡ false → 2 ≤ n
+two-at-least zero e = no-true (sym e)
+two-at-least (suc zero) e = no-true (sym e)
+two-at-least (suc (suc n)) e = omega arith
+
+ended : (r : Reading) (order : Order) (waiting : Option Awaited) (n : ℤ) → 2 ≤ length (r .present)
+    → least (runEnded (recast r order waiting) n) ≤ least (recast r order waiting) + 1
+ended r Third none n h = omega arith
+ended r Fourth none n h = omega (arith, length-append (r .sections) (record { number = n; outward = r .present; back = none } ∷ []))
+ended r order (some w) n h = omega (arith, length-append (r .sections) (record { number = w .number; outward = w .outward; back = some (r .present) } ∷ []))
+
+open-lines : (s : Stage) → isOpen s ≡ true → stageLines s ≡ 1
+open-lines Fresh e = no-true e
+open-lines Open e = refl
+open-lines Closed e = no-true e
+
+taken-least : (r : Reading) (c : Call) → refusal r c ≡ 0 → least (taken r c) ≤ least r + 1
+taken-least r (open-line order instrument number height) e = omega arith
+taken-least r (station kb kf readings) e = omega (arith, length-append (r .present) (stationOf kb kf readings ∷ []))
+taken-least r (end-run number) e =
+    ended r (r .order) (r .waiting) number (two-at-least (length (r .present)) (fails (standing r) (end-run number) e .1 .1 .0))
+taken-least r drop-run e = omega arith
+taken-least r drop-section e = omega arith
+taken-least r (close-line number end) e =
+    let opened = not-false (isOpen (r .stage)) (fails (standing r) (close-line number end) e .1 .1 .0) in
+    omega (arith, open-lines (r .stage) opened)
+
+-- ---- a line is refused, or adds one at most
+
+-- the refusal of line k, where there is one
+abbrev refusalOf : ℕ → ℕ → List Refusal
+refusalOf k n = cond (eqb n 0) [] (record { line = k; number = n } ∷ [])
+
+line-counts : (k : ℕ) (r : Reading) (l : Line) → length (refusalOf k (lineRefusal r l)) + least (lineNext r l) ≤ 1 + least r
+line-counts k r l = go (l .kind)
+  where
+    with-kind : Kind → Line
+    with-kind kind = record { kind = kind; values = l .values }
+
+    some-refusal : ℕ → List Refusal
+    some-refusal n = record { line = k; number = n } ∷ []
+
+    go : (kind : Kind) → length (refusalOf k (lineRefusal r (with-kind kind))) + least (lineNext r (with-kind kind)) ≤ 1 + least r
+    go (Record t) =
+        let c : Call = callOf t (l .values) in
+        by-test (eqb (refusal r c) 0) (λ b. length (cond b [] (some-refusal (refusal r c))) + least (cond b (taken r c) r) ≤ 1 + least r)
+        (λ b. omega (arith, taken-least r c (eqb→eq (refusal r c) 0 b))) (λ b. omega arith)
+    go (Refused n) = by-test (eqb n 0) (λ b. length (cond b [] (some-refusal n)) + least r ≤ 1 + least r) (λ b. omega arith) (λ b. omega arith)
+
+pub lines-count : (k : ℕ) (r : Reading) (ls : List (List ℕ)) → length (refusalsFrom k r ls) + least (readingAfter r ls) ≤ length ls + least r
+lines-count k r [] = omega arith
+lines-count k r (l ∷ ls) =
+    let s : Reading = lineNext r (lineIn l) in
+    omega (arith, line-counts k r (lineIn l), lines-count (suc k) s ls, length-append (refusalOf k (lineRefusal r (lineIn l))) (refusalsFrom (suc k) s ls))
