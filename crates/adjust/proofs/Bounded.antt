@@ -1,12 +1,9 @@
 -- How large the heights of a line of up to 64 sections can be, exact and printed, and t of a section.
-use mathlib.Core.Path.{_≡_, refl, sym, subst}
-use Prim.Native.Nat.{ℕ, _+_, _*_, _≤_, _<_}
+use Prim.Native.Nat.{_*_, _≤_, _<_}
 use native.Mathlib.Omega.{arith}
-use lib.IntN.{ℤ, pos, natAbs, _+ℤ_, _-ℤ_, _*ℤ_}
-use lib.Signed.{_≤ℤ_}
-use Rattle.numbers.proofs.Ring.{one-mulℤ}
+use lib.IntN.{ℤ, pos, natAbs, _*ℤ_}
 use Rattle.numbers.proofs.Parts.{ints, parts-abs, parts-times}
-use Rattle.numbers.proofs.Chain.{Value, plain, literal, add, sub, mul}
+use Rattle.numbers.proofs.Chain.{plain, literal, add, sub, mul}
 use Rattle.roots.proofs.RoundLaws.{round-size}
 use Rattle.adjust.specs.declared.Section.{Section}
 use Rattle.adjust.specs.declared.heights.Known.{Known}

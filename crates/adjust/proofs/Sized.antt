@@ -1,12 +1,12 @@
 -- One to 64 sections in the wider range between known heights: the sizes of ΣQ, L and W, and that a line is at least 1 long.
-use mathlib.Core.Path.{_≡_, refl, sym, ap, subst, _∙_}
-use mathlib.Core.Bool.{Bool, true, false, not, _&&_, _||_}
+use mathlib.Core.Path.{_≡_, refl}
+use mathlib.Core.Bool.{true, false, not, _&&_}
 use mathlib.Core.List.{List, [], _∷_}
-use Prim.Native.Nat.{ℕ, suc, _+_, _*_, _≤_, _<_}
+use Prim.Native.Nat.{ℕ, _*_, _≤_}
 use native.Mathlib.Omega.{arith}
 use lib.Dec.{leb, ltb, leb→le, ltb→lt, nltb→le}
 use lib.ListN.{length}
-use lib.IntN.{ℤ, pos, negℤ, natAbs, _+ℤ_, _-ℤ_, _*ℤ_}
+use lib.IntN.{ℤ, pos, negℤ, natAbs}
 use lib.Signed.{_≤ℤ_, leZ}
 use Rattle.numbers.proofs.Tests.{holds, fails, and-l, and-r, or-l, or-r, not-true, not-false}
 use Rattle.numbers.proofs.Parts.{ints, parts-add, parts-abs, test-le}
@@ -19,7 +19,7 @@ use Rattle.adjust.specs.Sections.{sectionsOf, anyOutside, misfit, height
 use Rattle.adjust.specs.Line.{lineHeight, lineLength, closure}
 use Rattle.adjust.specs.Frames.{figuresFit}
 use Rattle.adjust.specs.Call.{adjustTests, adjustRefusal}
-use Rattle.adjust.specs.Bounds.{Fits, Fitted, Between, Framed}
+use Rattle.adjust.specs.Bounds.{Fitted, Between, Framed}
 use Rattle.adjust.proofs.Lists.{Fit, fit-head, fit-tail, fitted-legs, strict-legs, from-length}
 
 pub height-size : (xs : List Section) → Fit xs → natAbs (lineHeight xs) ≤ 50000000 * length xs

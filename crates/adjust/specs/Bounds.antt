@@ -1,7 +1,6 @@
 -- What keeps the figures of a line in 64 bits: bounds that the code's private functions ask for. No rule of document 01.
 use mathlib.Core.Path.{_≡_}
 use mathlib.Core.Bool.{false, not}
-use mathlib.Core.List.{List}
 use Prim.Native.Nat.{ℕ, _*_, _≤_}
 use lib.IntN.{ℤ, pos, natAbs}
 use lib.Signed.{_≤ℤ_}

@@ -1,7 +1,7 @@
 -- What is promised of the points of a line between two known heights (demand 3 of document 01), in any units.
 use mathlib.Core.Path.{_≡_}
 use mathlib.Core.List.{List, [], _∷_, map}
-use Prim.Native.Nat.{ℕ, _*_, _≤_}
+use Prim.Native.Nat.{_*_, _≤_}
 use lib.IntN.{ℤ, pos, negℤ, natAbs, _+ℤ_, _-ℤ_, _*ℤ_}
 use Rattle.numbers.specs.Whole.{sum, lastOf}
 use Rattle.adjust.specs.declared.Section.{Section}

@@ -9,7 +9,6 @@ use Rattle.station.specs.declared.Order.{Order}
 use Rattle.adjust.specs.declared.Benchmark.{Benchmark}
 use Rattle.adjust.specs.declared.Section.{Section}
 use Rattle.adjust.specs.declared.Point.{Point}
-use Rattle.adjust.specs.declared.Summary.{Summary}
 use Rattle.adjust.specs.declared.Totals.{Totals}
 use Rattle.adjust.specs.declared.Adjusted.{Adjusted}
 use Rattle.adjust.specs.declared.heights.Known.{Known}

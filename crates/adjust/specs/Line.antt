@@ -1,9 +1,9 @@
 -- A line between two known heights: L, W, the exact and the printed heights, the corrections, and the accidental error (document 01, 'Closure, corrections, heights').
-use mathlib.Core.Bool.{Bool, cond, _&&_}
+use mathlib.Core.Bool.{cond}
 use mathlib.Core.List.{List, [], _∷_, map}
 use Prim.Native.Nat.{ℕ, _*_}
 use lib.ListN.{length}
-use lib.Dec.{ltb, leb}
+use lib.Dec.{ltb}
 use lib.IntN.{ℤ, pos, natAbs, _+ℤ_, _-ℤ_, _*ℤ_}
 use lib.Signed.{leZ}
 use Rattle.numbers.specs.Whole.{sum}

@@ -1,6 +1,6 @@
 -- A closing that is taken: its book is unbroken and the line's figures fit, so that what `adjusted_line` gives are the formulas' figures.
-use mathlib.Core.Path.{_≡_, refl, ap, _∙_}
-use mathlib.Core.Bool.{Bool, true, false, not, cond, _&&_, _||_}
+use mathlib.Core.Path.{_≡_, refl, ap}
+use mathlib.Core.Bool.{Bool, true, not, cond, _&&_, _||_}
 use lib.Dec.{eqb}
 use lib.IntN.{ℤ}
 use Rattle.numbers.proofs.Tests.{or-r, not-false}

@@ -1,13 +1,10 @@
 -- How a call's refusal and its effect are joined to its outcome: one law for a refused call and one for a call that is taken, for every call.
 use mathlib.Core.Path.{_≡_, sym, ap, _∙_}
-use mathlib.Core.Bool.{Bool, cond}
 use Prim.Native.Nat.{ℕ}
-use lib.Dec.{eqb}
 use Rattle.numbers.proofs.Tables.{zero-cond, nonzero-cond}
 use Rattle.adjust.specs.declared.Answer.{Answer}
 use Rattle.adjust.specs.Call.{answerOf}
 use Rattle.book.specs.declared.Book.{Book}
-use Rattle.book.specs.declared.Outcome.{Outcome}
 use Rattle.book.specs.Standing.{standingOf, bookWith}
 use Rattle.book.specs.Rules.{Call, bookRefusal, taken}
 use Rattle.book.specs.Calls.{bookAfter, outcome}

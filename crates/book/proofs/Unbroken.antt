@@ -1,27 +1,25 @@
 -- An unbroken book: what the test of 20 leaves to know of its counts and sums.
 use mathlib.Core.Path.{_≡_, refl, sym, ap, _∙_}
-use mathlib.Core.Bool.{Bool, true, false, not, _&&_, _||_}
+use mathlib.Core.Bool.{true, false, not, _&&_, _||_}
 use mathlib.Core.List.{List, [], _∷_}
 use Prim.Native.Nat.{ℕ, zero, suc, _≤_, _<_}
 use native.Mathlib.Omega.{arith}
 use lib.Dec.{leb, ltb, eqb, eqb·suc-zero, leb→le, nleb→lt}
 use lib.ListN.{length}
-use lib.IntN.{ℤ, pos, natAbs}
-use lib.Signed.{_≤ℤ_}
+use lib.IntN.{pos}
 use borrow.Author.Tests.{lt-ltb}
 use Rattle.numbers.specs.Whole.{within, between}
 use Rattle.numbers.proofs.Tests.{holds, fails, no-true, and-l, and-r, or-l, or-r, not-false}
 use Rattle.numbers.proofs.Sizes.{between-size, within-size}
-use Rattle.numbers.proofs.All.{All}
 use Rattle.adjust.specs.declared.Sections.{Sections}
-use Rattle.adjust.specs.Sections.{sectionsFrom, sectionsOf, sectionFits, anyOutside, misfit, heightInRange}
+use Rattle.adjust.specs.Sections.{sectionsFrom, sectionsOf, anyOutside, misfit, heightInRange}
 use Rattle.adjust.proofs.Lists.{from-length}
 use Rattle.book.specs.declared.Run.{Run}
 use Rattle.book.specs.declared.Waiting.{Waiting}
 use Rattle.book.specs.declared.Waiting.the-variants.{Nothing, Outward}
 use Rattle.book.specs.declared.Book.{Book}
 use Rattle.book.specs.Bounds.{SmallRun, SmallRuns}
-use Rattle.book.specs.Standing.{standingOf, isEmpty, outwardOrReturn, runFits, waitingBroken, lineBroken, misplaced, broken}
+use Rattle.book.specs.Standing.{standingOf, isEmpty, runFits, waitingBroken, lineBroken, misplaced, broken}
 
 pub small-run : (u : Run) → runFits u ≡ true → SmallRun u
 small-run u e =

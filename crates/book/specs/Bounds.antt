@@ -1,5 +1,5 @@
 -- What an unbroken book's runs are bounded by, so that the code's sums fit: asked for by its private functions. No rule of document 01.
-use Prim.Native.Nat.{ℕ, _≤_}
+use Prim.Native.Nat.{_≤_}
 use lib.IntN.{natAbs}
 use Rattle.book.specs.declared.Run.{Run}
 use Rattle.book.specs.declared.Waiting.{Waiting}

@@ -1,6 +1,6 @@
 -- The rules: each call's tests, each beside its refusal number and in the order in which they are made, and what a call that is taken leaves
 -- (document 01, 'Runs, sections and the standing list' and the two lists of refusals).
-use mathlib.Core.Bool.{Bool, true, false, not, cond, _&&_, _||_}
+use mathlib.Core.Bool.{Bool, false, not, cond, _&&_, _||_}
 use mathlib.Core.List.{List, [], _∷_, _++_}
 use Prim.Native.Nat.{ℕ, _%_}
 use lib.ListN.{length}
@@ -18,8 +18,7 @@ use Rattle.station.specs.Station.{stationOf, figuresOf, limitsOf, readingTests,
 use Rattle.adjust.specs.declared.Section.{Section}
 use Rattle.adjust.specs.Sections.{heightInRange}
 use Rattle.adjust.specs.Line.{lineLength, closure}
-use Rattle.book.specs.declared.Stage.{Stage}
-use Rattle.book.specs.declared.Stage.the-variants.{Fresh, Open, Closed}
+use Rattle.book.specs.declared.Stage.the-variants.{Open, Closed}
 use Rattle.book.specs.declared.Run.{Run}
 use Rattle.book.specs.declared.Waiting.{Waiting}
 use Rattle.book.specs.declared.Waiting.the-variants.{Nothing, Outward}

@@ -1,12 +1,11 @@
 -- What the rules look at: the counts and sums of the standing list. The plain reading computes them from its lists of stations, a book holds them.
-use mathlib.Core.Bool.{Bool, true, false, not, cond, _&&_, _||_}
-use mathlib.Core.List.{List, [], _∷_, _++_, map}
+use mathlib.Core.Bool.{Bool, true, false, not, _&&_, _||_}
+use mathlib.Core.List.{List, [], _∷_, map}
 use Prim.Native.Nat.{ℕ, _+_}
 use lib.ListN.{length}
 use lib.Dec.{leb, eqb}
 use lib.IntN.{ℤ, pos, _+ℤ_, _-ℤ_, _*ℤ_}
 use Rattle.numbers.specs.Whole.{within, between, eqZ, anyOf, lastOf}
-use Rattle.roots.specs.Limit.{isWithin}
 use Rattle.station.specs.declared.Order.{Order}
 use Rattle.station.specs.declared.Order.the-variants.{Third, Fourth}
 use Rattle.station.specs.declared.Figures.{Figures}

@@ -1,16 +1,15 @@
 -- How many bytes a report has: lines of 84 bytes, two more at most than the text has after its heading.
-use mathlib.Core.Path.{_≡_, refl, sym, ap, _∙_}
+use mathlib.Core.Path.{_≡_, refl, ap, _∙_}
 use mathlib.Core.Bool.{Bool, true, false, cond}
 use mathlib.Core.List.{List, [], _∷_, _++_, map}
 use Prim.Native.Nat.{ℕ, zero, suc, _+_, _*_, _≤_}
 use native.Mathlib.Omega.{arith}
 use lib.ListN.{length, drop, length-append, length-drop, length-map}
 use lib.IntN.{ℤ, pos, _*ℤ_}
-use Rattle.numbers.proofs.Tests.{by-test}
 use Rattle.adjust.specs.declared.Point.{Point}
 use Rattle.adjust.specs.Line.{frameOf, Closing}
 use Rattle.columns.specs.Decimals.{same}
-use Rattle.columns.specs.Lines.{fields, lineFits, lineWith, tagLine, isWide, heading, title}
+use Rattle.columns.specs.Lines.{fields, lineFits, lineWith, tagLine, isWide, heading}
 use Rattle.columns.specs.Texts.{linesBy, lines, joined}
 use Rattle.columns.proofs.Lines.{length-with, length-title, fits-line}
 use Rattle.book.specs.declared.Stage.{Stage}
@@ -19,7 +18,7 @@ use Rattle.book.specs.Standing.{isClosed}
 use Rattle.ledger.specs.Plain.{Reading, freshReading, sectionOf, figuresOf}
 use Rattle.ledger.proofs.Traced.{points-length}
 use Rattle.fieldbook.specs.Text.{Refusal, refusalsFrom, readingAfter}
-use Rattle.fieldbook.specs.Report.{refLine, closedLine, pointLine, openLine, closingLines, resultLines, reportOf, withoutHeading, reportLines, report}
+use Rattle.fieldbook.specs.Report.{refLine, pointLine, openLine, closingLines, resultLines, reportOf, withoutHeading, reportLines, report}
 use Rattle.fieldbook.specs.Fits.{ReportFits}
 use Rattle.fieldbook.proofs.Size.{stageLines, waitingLines, least, lines-count}
 

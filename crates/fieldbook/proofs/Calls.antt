@@ -1,22 +1,20 @@
 -- A text is read as the list of its calls is, so what is proved of every list of calls holds of what the report prints.
-use mathlib.Core.Path.{_≡_, refl, sym, ap, subst, _∙_}
-use mathlib.Core.Bool.{Bool, cond}
-use mathlib.Core.List.{List, [], _∷_, _++_}
+use mathlib.Core.Path.{_≡_, refl, sym, ap, _∙_}
+use mathlib.Core.Bool.{cond}
+use mathlib.Core.List.{List, [], _∷_}
 use Prim.Native.Nat.{ℕ}
-use lib.IntN.{ℤ}
 use Rattle.columns.specs.declared.reader.Kind.{Kind}
 use Rattle.columns.specs.declared.reader.Kind.the-variants.{Record, Refused}
 use Rattle.columns.specs.declared.reader.Line.{Line}
 use Rattle.columns.specs.Records.{lineIn}
 use Rattle.book.specs.declared.Stage.{Stage}
-use Rattle.book.specs.declared.Stage.the-variants.{Closed}
 use Rattle.book.specs.Standing.{isClosed}
 use Rattle.ledger.specs.Plain.{Reading, freshReading, after, figuresOf}
 use Rattle.ledger.proofs.Drops.{after-append}
 use Rattle.ledger.proofs.Every.{every-list, same-figures}
 use Rattle.fieldbook.specs.Text.{callsIn, lineNext, readingAfter, callsOf}
-use Rattle.fieldbook.specs.Report.{closingLines, openLine, resultLines}
-use Rattle.fieldbook.specs.Claims.{Printed, EveryText}
+use Rattle.fieldbook.specs.Report.{closingLines, openLine}
+use Rattle.fieldbook.specs.Claims.{EveryText}
 
 line-calls : (r : Reading) (l : Line) → lineNext r l ≡ after r (callsIn l)
 line-calls r l = go (l .kind)

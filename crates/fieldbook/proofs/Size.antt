@@ -1,14 +1,14 @@
 -- How many lines a report has: a section takes three lines of the text at least, so points never make up for more than the lines that were taken.
-use mathlib.Core.Path.{_≡_, refl, sym, ap, _∙_}
-use mathlib.Core.Bool.{Bool, true, false, not, cond, _||_}
-use mathlib.Core.List.{List, [], _∷_, _++_, map}
+use mathlib.Core.Path.{_≡_, refl, sym}
+use mathlib.Core.Bool.{true, false, cond, _||_}
+use mathlib.Core.List.{List, [], _∷_}
 use mathlib.Core.Option.{Option, none, some}
 use Prim.Native.Nat.{ℕ, zero, suc, _+_, _*_, _%_, _≤_}
 use native.Mathlib.Omega.{arith}
 use lib.Dec.{eqb, eqb→eq}
 use lib.ListN.{length, length-append}
 use lib.IntN.{ℤ}
-use Rattle.numbers.proofs.Tests.{by-test, no-true, or-l, or-r, not-false}
+use Rattle.numbers.proofs.Tests.{by-test, no-true, not-false}
 use Rattle.station.specs.declared.Order.{Order}
 use Rattle.station.specs.declared.Order.the-variants.{Third, Fourth}
 use Rattle.station.specs.Station.{stationOf}
@@ -18,7 +18,7 @@ use Rattle.columns.specs.declared.reader.Line.{Line}
 use Rattle.columns.specs.Records.{lineIn}
 use Rattle.book.specs.declared.Stage.{Stage}
 use Rattle.book.specs.declared.Stage.the-variants.{Fresh, Open, Closed}
-use Rattle.book.specs.Standing.{isOpen, isShut}
+use Rattle.book.specs.Standing.{isOpen}
 use Rattle.book.specs.Rules.{Call, open-line, station, end-run, drop-run, drop-section, close-line}
 use Rattle.ledger.specs.Plain.{Reading, Awaited, refusal, taken, runEnded, standing}
 use Rattle.ledger.proofs.Lowest.{fails}

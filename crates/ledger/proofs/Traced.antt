@@ -17,9 +17,9 @@ use Rattle.adjust.specs.declared.Summary.{Summary}
 use Rattle.adjust.specs.Sections.{sectionsOf}
 use Rattle.adjust.specs.Line.{Frame, pointsAfter, points, frameOf, Closing, closing}
 use Rattle.adjust.specs.Frames.{noPoint, adjustedOf}
-use Rattle.adjust.specs.Call.{numberOf, answerOf}
+use Rattle.adjust.specs.Call.{numberOf}
 use Rattle.adjust.proofs.Refused.{number-of-answer}
-use Rattle.adjust.proofs.Holding.{sections-holding, holding-again, holding-none}
+use Rattle.adjust.proofs.Holding.{sections-holding, holding-again}
 use Rattle.book.specs.declared.Book.{Book}
 use Rattle.book.specs.declared.Outcome.{Outcome}
 use Rattle.book.specs.declared.CloseAnswer.the-variants.{Closed, NotClosed}
@@ -30,7 +30,7 @@ use Rattle.book.specs.Rules as Rules
 use Rattle.book.specs.Calls.{freshBook, bookAfter, outcome, closingOf, closeNumber, closeValues, closeAnswerOf, closeOutcome, gaveOf, figuresOf}
 use Rattle.ledger.specs.Plain.{Reading, freshReading, next, taken, refusal, after, refusals, given, closings, standing}
 use Rattle.ledger.specs.Claims.{ClosedOnce}
-use Rattle.ledger.specs.Trace.{FreshEnsures, Ensures, CloseEnsures, Trace, done, call, close, SoundTrace, EveryTrace}
+use Rattle.ledger.specs.Trace.{Ensures, Trace, done, call, close, EveryTrace}
 use Rattle.ledger.proofs.Follows.{follows}
 use Rattle.ledger.proofs.Whole.{Kept, next-kept, fresh-kept, calls-kept, same-refusal, no-shorter}
 use Rattle.ledger.proofs.Every.{every-list, same-figures, either, none-given}

@@ -1,7 +1,7 @@
 -- A chain of signed operations, followed as the code has it, with a literal that bounds each magnitude: that a result fits 64 bits is then computed.
 -- `fits (..) tt` answers an operation's need, `kept (..) tt` is a value that a later operation reads, and `.is` says what it is in plain integers.
 use mathlib.Core.Path.{_≡_, refl, sym, subst}
-use Prim.Native.Nat.{ℕ, _+_, _*_, _≤_, _<_}
+use Prim.Native.Nat.{ℕ, _+_, _*_, _≤_}
 use native.Mathlib.Nat.{le-refl, le-trans, mul-le-mul, add-le-add}
 use native.Mathlib.Omega.{arith}
 use lib.Dec.{T, ltb, ltb→lt}

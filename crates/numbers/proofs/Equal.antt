@@ -1,7 +1,6 @@
 -- The test that two integers are equal, to and from equations; and the machine's test of equality, which compares bits.
 use mathlib.Core.Path.{_≡_, refl, sym, ap, _∙_}
 use mathlib.Core.Bool.{true, false}
-use Prim.Native.Nat.{ℕ}
 use borrow.Author.Tests.{eqb-true, eq-eqb, ne-eqb}
 use lib.Dec.{eqb}
 use lib.IntN.{ℤ, pos, negsuc, ℤ-discrete}
@@ -9,7 +8,7 @@ use mir.Syntax.{w64}
 use mir.Val.{SFits, ofZ, toZ}
 use mir.Facts.{toZ-ofZ}
 use Rattle.numbers.specs.Whole.{eqZ}
-use Rattle.numbers.proofs.Tests.{by-test, is-true, is-false, not-both}
+use Rattle.numbers.proofs.Tests.{by-test, not-both}
 
 pub eqZ-refl : (x : ℤ) → eqZ x x ≡ true
 eqZ-refl (pos a) = eq-eqb a a refl

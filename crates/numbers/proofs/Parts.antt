@@ -8,8 +8,8 @@ use native.Mathlib.Nat.{mul-zero}
 use native.Mathlib.Omega.{arith}
 use lib.Dec.{ltb, leb→le, le→leb, ltb→lt, lt→ltb, nltb→le}
 use lib.IntN.{ℤ, pos, negsuc, negℤ, natAbs, subℕ, _+ℤ_, _-ℤ_, _*ℤ_}
-use lib.Signed.{_≤ℤ_, _<ℤ_, ltZ, leZ, nonNeg, ltZ-yes, ltZ-no, leZ-yes, clashℤ, yes-nonNeg, pos-natAbs}
-use Rattle.numbers.proofs.Tests.{by-test, holds, fails, is-true, is-false, not-both}
+use lib.Signed.{_≤ℤ_, _<ℤ_, ltZ, leZ, ltZ-yes, ltZ-no, leZ-yes, clashℤ, yes-nonNeg, pos-natAbs}
+use Rattle.numbers.proofs.Tests.{by-test, holds, fails, is-true, not-both}
 
 abbrev pub posPart : ℤ → ℕ
 posPart (pos n) = n

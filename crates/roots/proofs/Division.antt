@@ -1,17 +1,17 @@
 -- Signed division by a positive number, as the machine has it: what its quotient, its remainder and the test of the remainder's sign are in plain integers.
 use mathlib.Core.Path.{_≡_, sym, ap, subst, _∙_}
 use mathlib.Core.Bool.{Bool, true, false}
-use Prim.Native.Nat.{ℕ, _≤_, _<_}
+use Prim.Native.Nat.{_≤_, _<_}
 use native.Mathlib.Omega.{arith}
 use lib.IntN.{ℤ, pos, natAbs, _+ℤ_, _-ℤ_, _*ℤ_, *ℤ-zero}
-use lib.Signed.{_≤ℤ_, _<ℤ_, ltZ, quotZ, remZ}
+use lib.Signed.{_≤ℤ_, ltZ, quotZ, remZ}
 use mir.Syntax.{w64}
 use mir.Val.{SFits, toZ, ofZ, boolByte}
 use Rattle.numbers.proofs.Ring.{mul-oneℤ}
 use Rattle.numbers.proofs.Parts.{ints, parts-abs, pos-abs}
 use Rattle.numbers.proofs.Machine.{stored, stored-id, stored-as, fits-as, abs-fits, fits-abs, literal-as, add-as, sub-as, mul-as, quot-as, rem-as, lt-as, bool-as}
 use Rattle.roots.specs.Round.{floorDiv}
-use Rattle.roots.proofs.Floor.{Split, floor-split, lowered, size-rem, quot-fits, floor-is, excess-is}
+use Rattle.roots.proofs.Floor.{floor-split, lowered, size-rem, quot-fits, floor-is, excess-is}
 
 module _ {n d : ℤ} (fn : SFits w64 n) (fd : SFits w64 d) (h : pos 1 ≤ℤ d) where
   divisor-pos : 1 ≤ natAbs d

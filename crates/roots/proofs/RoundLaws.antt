@@ -7,7 +7,7 @@ use native.Mathlib.Nat.{mul-pos, eq-of-mul-eq-mul-left, mul-le-mul-left, mul-le-
 use native.Mathlib.Omega.{arith}
 use lib.Dec.{ltb, ltb→lt, nltb→le}
 use lib.IntN.{ℤ, pos, negsuc, negℤ, natAbs, _+ℤ_, _-ℤ_, _*ℤ_, +ℤ-invr}
-use lib.Signed.{_≤ℤ_, _<ℤ_, mag}
+use lib.Signed.{_≤ℤ_, mag}
 use mir.Syntax.{Width}
 use mir.Val.{SFits}
 use mir.ValLaws.{sfits-le}
@@ -16,7 +16,7 @@ use Rattle.numbers.proofs.Ring.{ringℤ, mul-addℤ, mul-oneℤ, mul-assocℤ}
 use Rattle.numbers.proofs.Parts.{posPart, negPart, ints, parts-le, parts-eq, parts-sub, parts-abs, parts-times, pos-abs}
 use Rattle.numbers.proofs.Sizes.{abs-neg, abs-sub, abs-sub-pos, abs-mul, abs-apart, parity-add, parity-sub}
 use Rattle.roots.specs.Round.{IsRound, floorDiv, roundEven, divisor}
-use Rattle.roots.proofs.Floor.{Split, floor-split}
+use Rattle.roots.proofs.Floor.{floor-split}
 
 -- ---- roundEven rounds
 

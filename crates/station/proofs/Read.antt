@@ -1,12 +1,12 @@
 -- A station whose readings are not refused: its ranges and orders hold, so its readings and constants are small.
-use mathlib.Core.Path.{_≡_, refl, sym, ap, _∙_}
+use mathlib.Core.Path.{_≡_, refl, ap}
 use mathlib.Core.Bool.{Bool, true, false, not, _&&_, _||_}
 use mathlib.Core.List.{List}
 use Prim.Native.Nat.{ℕ, _≤_}
 use native.Mathlib.Omega.{arith}
 use lib.IntN.{ℤ, pos, natAbs, _+ℤ_, _-ℤ_}
 use Rattle.numbers.specs.Whole.{between, eqZ}
-use Rattle.numbers.proofs.Tests.{and-l, and-r, not-false, no-true}
+use Rattle.numbers.proofs.Tests.{and-l, and-r, not-false}
 use Rattle.numbers.proofs.Equal.{eqZ-eq}
 use Rattle.numbers.proofs.Sizes.{between-size, abs-add, abs-sub}
 use Rattle.numbers.proofs.Tables.{all-fail}

@@ -1,7 +1,7 @@
 // A station's figures, and the rules that look at one station alone. Readings are back and fore, each upper thread, lower thread,
 // black middle and red middle in mm; kb and kf are the constants of the back and the fore staff.
 ghost use mathlib.Core.Path.{_≡_};
-ghost use mathlib.Core.Bool.{true, not, cond, _&&_};
+ghost use mathlib.Core.Bool.{true, cond, _&&_};
 ghost use Prim.Native.Nat.{_≤_};
 ghost use lib.IntN.{pos, natAbs, _+ℤ_, _-ℤ_};
 ghost use Rattle.numbers.specs.Whole.{within};

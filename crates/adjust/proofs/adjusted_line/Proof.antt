@@ -8,7 +8,7 @@ use Rattle.numbers.proofs.Machine.{stored-id, stored-both}
 use Rattle.adjust.specs.Sections.{sectionsOf}
 use Rattle.adjust.specs.Line.{closing}
 use Rattle.adjust.specs.Frames.{figuresFit, adjustedOf, nothing, adjustedIfFit}
-use Rattle.adjust.specs.Bounds.{Between, Fitted}
+use Rattle.adjust.specs.Bounds.{Between}
 use Rattle.adjust.proofs.Sized.{fitting}
 use borrow.Author.Needs.{needs}
 use Rattle.adjust.proofs.adjusted_line.Statement.{statement}

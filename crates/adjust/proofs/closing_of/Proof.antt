@@ -1,19 +1,15 @@
 -- `closing_of` meets its contract, by those of the sums, T, the verdict and the points.
 use mathlib.Core.Path.{_≡_, sym, ap, subst, _∙_}
-use Prim.Native.Nat.{ℕ, _≤_}
 use native.Mathlib.Omega.{arith}
-use lib.ListN.{length}
-use lib.IntN.{ℤ, pos, natAbs, _*ℤ_}
 use mir.Syntax.{w64}
 use mir.Val.{SFits}
 use Rattle.numbers.specs.Whole.{filled}
 use Rattle.numbers.proofs.Ring.{one-mulℤ}
 use Rattle.numbers.proofs.Machine.{stored, stored-id, stored-both, abs-fits}
 use Rattle.numbers.proofs.Chain.{known}
-use Rattle.adjust.specs.declared.Point.{Point}
 use Rattle.adjust.specs.declared.heights.Known.{Known}
 use Rattle.adjust.specs.Sections.{sectionsOf}
-use Rattle.adjust.specs.Line.{closure, lineLength, points, accidentalSum, verdict}
+use Rattle.adjust.specs.Line.{closure, lineLength, points, verdict}
 use Rattle.adjust.specs.Frames.{frame, noPoint}
 use Rattle.adjust.specs.Bounds.{Framed}
 use Rattle.adjust.proofs.Lists.{from-length}

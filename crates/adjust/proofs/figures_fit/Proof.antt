@@ -1,7 +1,6 @@
 -- `figures_fit` meets its contract, test by test.
-use mathlib.Core.Path.{_≡_, sym, ap, _∙_}
+use mathlib.Core.Path.{sym, ap, _∙_}
 use mathlib.Core.Bool.{not, _&&_}
-use Prim.Native.Nat.{ℕ}
 use lib.Dec.{ltb}
 use Rattle.numbers.proofs.Machine.{stored-id}
 use Rattle.adjust.specs.Sections.{heightInRange}

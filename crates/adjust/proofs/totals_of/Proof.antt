@@ -1,11 +1,10 @@
 -- `totals_of` meets its contract: W and L where the figures fit, zeros where they do not.
 use mathlib.Core.Path.{_≡_, sym, ap, subst, _∙_}
-use mathlib.Core.Bool.{Bool, true, false, cond}
+use mathlib.Core.Bool.{Bool, cond}
 use Prim.Native.Nat.{_≤_}
-use lib.IntN.{ℤ, pos, natAbs}
+use lib.IntN.{pos, natAbs}
 use Rattle.numbers.proofs.Machine.{stored-both, holds-stored}
 use Rattle.numbers.proofs.Chain.{known}
-use Rattle.adjust.specs.declared.Totals.{Totals}
 use Rattle.adjust.specs.declared.heights.Known.{Known}
 use Rattle.adjust.specs.Sections.{sectionsOf}
 use Rattle.adjust.specs.Line.{closure, lineLength}

@@ -1,6 +1,6 @@
 -- `difference_within` meets its contract: the difference of small numbers fits.
 use mathlib.Core.Path.{_∙_}
-use lib.IntN.{ℤ, _-ℤ_}
+use lib.IntN.{_-ℤ_}
 use Rattle.numbers.specs.Whole.{within}
 use Rattle.numbers.proofs.Machine.{stored}
 use Rattle.numbers.proofs.Chain.{Value, known, sub, fits, kept}

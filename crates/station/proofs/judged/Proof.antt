@@ -5,7 +5,6 @@ use lib.IntN.{_+ℤ_, _-ℤ_}
 use Rattle.numbers.specs.Whole.{within}
 use Rattle.numbers.proofs.Machine.{stored-id}
 use Rattle.numbers.proofs.Chain.{known}
-use Rattle.station.specs.Bounds.{Small}
 use borrow.Author.Needs.{needs}
 use Rattle.station.proofs.judged.Statement.{statement}
 use Rattle.station.proofs.judged.Tie as tie

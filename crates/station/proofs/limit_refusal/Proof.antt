@@ -1,5 +1,5 @@
 -- `limit_refusal` meets its contract: 0 where the readings are refused, else what `judged` says of the figures.
-use mathlib.Core.Path.{_≡_, sym, ap, subst, _∙_}
+use mathlib.Core.Path.{_≡_, sym, subst, _∙_}
 use Prim.Native.Nat.{ℕ, _≤_}
 use native.Mathlib.Omega.{arith}
 use borrow.Author.Needs.{needs}
@@ -10,7 +10,6 @@ use Rattle.station.specs.declared.Order.{Order}
 use Rattle.station.specs.declared.Order.the-variants.{Third, Fourth}
 use Rattle.station.specs.declared.Instrument.{Instrument}
 use Rattle.station.specs.declared.Limits.{Limits}
-use Rattle.station.specs.declared.Figures.{Figures}
 use Rattle.station.specs.Bounds.{Small}
 use Rattle.station.specs.Station.{Station, stationOf, figuresOf, limitsOf, limitTests, readingRefusal, limitRefusal}
 use Rattle.station.proofs.Read.{read, figures-small}

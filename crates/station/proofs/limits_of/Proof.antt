@@ -1,7 +1,6 @@
 -- `limits_of` meets its contract, order by order.
-use mathlib.Core.Path.{_≡_, sym, ap, _∙_}
+use mathlib.Core.Path.{sym, ap, _∙_}
 use Rattle.station.specs.declared.Order.{Order}
-use Rattle.station.specs.declared.Order.the-variants.{Third, Fourth}
 use Rattle.station.specs.Station.{limitsOf, sightLimit}
 use borrow.Author.Needs.{needs}
 use Rattle.station.proofs.limits_of.Statement.{statement}

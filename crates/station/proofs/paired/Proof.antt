@@ -1,5 +1,4 @@
 -- `paired` meets its contract: the machine compares bits, which are equal where the numbers are.
-use mathlib.Core.Path.{refl}
 use mathlib.Core.Bool.{_&&_, _||_}
 use lib.IntN.{pos}
 use mir.Facts.{sfits-lit}

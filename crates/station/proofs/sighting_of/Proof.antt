@@ -1,5 +1,4 @@
 -- `sighting_of` meets its contract: readings in their ranges make no sum that wraps.
-use mathlib.Core.Path.{_≡_}
 use lib.IntN.{ℤ, _+ℤ_, _-ℤ_}
 use borrow.Author.Needs.{needs}
 use Rattle.numbers.proofs.Machine.{stored}

@@ -1,10 +1,9 @@
 -- `twice_height` meets its contract: readings in their ranges make no sum that wraps.
-use mathlib.Core.Path.{_≡_}
 use lib.IntN.{ℤ, _+ℤ_, _-ℤ_}
 use borrow.Author.Needs.{needs}
 use Rattle.numbers.proofs.Machine.{stored}
 use Rattle.numbers.proofs.Chain.{Value, known, add, sub, fits, kept}
-use Rattle.station.specs.Station.{Station, stationOf, twiceHeight}
+use Rattle.station.specs.Station.{Station, stationOf}
 use Rattle.station.proofs.Read.{Read, read}
 use Rattle.station.proofs.twice_height.Statement.{statement}
 use Rattle.station.proofs.twice_height.Tie as tie

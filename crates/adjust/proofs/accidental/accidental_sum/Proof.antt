@@ -1,5 +1,5 @@
 -- `accidental_sum` meets its contract, order by order.
-use mathlib.Core.Path.{_≡_, sym, ap, _∙_}
+use mathlib.Core.Path.{sym, ap, _∙_}
 use mir.Syntax.{w64}
 use mir.Val.{SFits}
 use Rattle.station.specs.declared.Order.{Order}

@@ -1,5 +1,5 @@
 -- `put_heights` meets its contract: the heights written and those still to be written are those of the points behind the first.
-use mathlib.Core.Path.{_≡_, refl, sym, ap, subst, _∙_}
+use mathlib.Core.Path.{_≡_, refl, sym, ap, _∙_}
 use mathlib.Core.List.{List, [], _∷_, _++_, map, append-assoc, append-nil}
 use Prim.Native.Nat.{ℕ, suc, _+_, _-_, _≤_, _<_}
 use native.Mathlib.Numerals.{add-one}
@@ -7,10 +7,10 @@ use native.Mathlib.Omega.{arith}
 use borrow.Author.Needs.{needs}
 use lib.ListN.{length, getD, set, take, drop, length-set, length-append}
 use lib.Seq.{drop-cons}
-use lib.IntN.{ℤ, pos}
+use lib.IntN.{ℤ}
 use mir.Syntax.{w64}
 use mir.Val.{SFits}
-use Rattle.numbers.proofs.Machine.{stored, stored-id}
+use Rattle.numbers.proofs.Machine.{stored-id}
 use Rattle.adjust.specs.declared.Point.{Point}
 use Rattle.adjust.specs.Sections.{over}
 use Rattle.adjust.specs.Frames.{noPoint}

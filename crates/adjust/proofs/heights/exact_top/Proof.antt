@@ -1,6 +1,6 @@
 -- `exact_top` meets its contract: each product fits for up to 64 sections.
-use mathlib.Core.Path.{_≡_, sym, _∙_}
-use lib.IntN.{ℤ, pos, _+ℤ_, _-ℤ_, _*ℤ_}
+use mathlib.Core.Path.{sym, _∙_}
+use lib.IntN.{ℤ, pos, _+ℤ_, _*ℤ_}
 use Rattle.numbers.proofs.Ring.{one-mulℤ}
 use Rattle.numbers.proofs.Machine.{stored}
 use Rattle.numbers.proofs.Chain.{Value, known, literal, add, sub, mul, fits, kept}

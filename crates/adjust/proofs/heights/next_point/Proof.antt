@@ -1,7 +1,6 @@
 -- `next_point` meets its contract: sums, height and correction fit for up to 64 sections.
-use mathlib.Core.Path.{_≡_, sym, ap, subst, _∙_}
-use Prim.Native.Nat.{ℕ, _≤_}
-use native.Mathlib.Omega.{arith}
+use mathlib.Core.Path.{_≡_, sym, subst, _∙_}
+use Prim.Native.Nat.{_≤_}
 use lib.IntN.{ℤ, pos, natAbs, _+ℤ_, _-ℤ_, _*ℤ_}
 use borrow.Author.Needs.{needs}
 use mir.Syntax.{w64}

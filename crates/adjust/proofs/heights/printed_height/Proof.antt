@@ -1,6 +1,6 @@
 -- `printed_height` meets its contract, by the promise of rounding: 4 × L is a divisor in its range.
 use mathlib.Core.Path.{_≡_, ap, _∙_}
-use Prim.Native.Nat.{ℕ, _≤_}
+use Prim.Native.Nat.{_≤_}
 use native.Mathlib.Omega.{arith}
 use lib.IntN.{ℤ, pos, natAbs, _*ℤ_}
 use lib.Signed.{_≤ℤ_}
@@ -14,7 +14,6 @@ use Rattle.numbers.proofs.Machine.{stored, stored-id, stored-both}
 use Rattle.numbers.proofs.Chain.{Value, known, literal, mul, fits, kept}
 use Rattle.adjust.specs.Line.{exactTop}
 use Rattle.adjust.specs.Frames.{frame}
-use Rattle.adjust.specs.Bounds.{Framed}
 use Rattle.adjust.proofs.heights.printed_height.Statement.{statement}
 use Rattle.adjust.proofs.heights.printed_height.Tie as tie
 

@@ -1,5 +1,4 @@
 -- `with_section` meets its contract: the sums of up to 64 sections fit.
-use native.Mathlib.Omega.{arith}
 use Rattle.numbers.proofs.Machine.{stored}
 use Rattle.numbers.proofs.Chain.{Value, known, add, fits, kept}
 use lib.IntN.{ℤ, _+ℤ_}

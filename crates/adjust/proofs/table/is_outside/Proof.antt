@@ -1,10 +1,8 @@
 -- `is_outside` meets its contract, by either range.
 use mathlib.Core.Path.{_≡_, sym, ap, _∙_}
-use mathlib.Core.Bool.{Bool, true, false, not, cond, _&&_}
-use Prim.Native.Nat.{ℕ}
+use mathlib.Core.Bool.{Bool, not, cond, _&&_}
 use lib.Dec.{leb}
-use lib.IntN.{ℤ, pos, natAbs}
-use lib.Signed.{leZ}
+use lib.IntN.{pos, natAbs}
 use borrow.Author.Needs.{needs}
 use mir.Syntax.{w64}
 use mir.Val.{SFits}

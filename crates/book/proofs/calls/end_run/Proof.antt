@@ -1,5 +1,5 @@
 -- `end_run` meets its contract, by the laws that join a refusal and an effect.
-use mathlib.Core.Path.{_≡_, sym, ap, _∙_}
+use mathlib.Core.Path.{_≡_, ap, _∙_}
 use lib.IntN.{ℤ}
 use Rattle.numbers.proofs.Machine.{stored-id}
 use Rattle.book.specs.Standing.{standingOf, bookWith}

@@ -1,5 +1,5 @@
 -- `open` meets its contract, by the laws that join a refusal and an effect.
-use mathlib.Core.Path.{_≡_, sym, ap, _∙_}
+use mathlib.Core.Path.{_≡_, _∙_}
 use Rattle.numbers.proofs.Machine.{stored-id}
 use Rattle.book.specs.Standing.{standingOf, bookWith}
 use Rattle.book.specs.Rules.{Call, open-line, bookRefusal, taken}

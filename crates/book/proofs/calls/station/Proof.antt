@@ -1,6 +1,6 @@
 -- `station` meets its contract, by the laws that join a refusal and an effect.
-use mathlib.Core.Path.{_≡_, sym, ap, _∙_}
-use Rattle.numbers.proofs.Machine.{stored-both, holds-stored}
+use mathlib.Core.Path.{_≡_, _∙_}
+use Rattle.numbers.proofs.Machine.{stored-both}
 use Rattle.book.specs.Standing.{standingOf, bookWith}
 use Rattle.book.specs.Rules.{Call, station, bookRefusal, taken}
 use Rattle.book.proofs.Joined.{joined-refused, joined-taken}

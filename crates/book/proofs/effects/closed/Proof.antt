@@ -1,5 +1,5 @@
 -- `closed` meets its contract: arrays that hold their own list are unchanged.
-use mathlib.Core.Path.{_≡_, sym}
+use mathlib.Core.Path.{sym}
 use borrow.Author.Needs.{needs}
 use Rattle.numbers.proofs.Machine.{stored-id}
 use Rattle.adjust.proofs.Holding.{Whole, holding-own}

@@ -1,5 +1,5 @@
 -- `opened` meets its contract: a line with no section leaves the arrays as they are.
-use mathlib.Core.Path.{_≡_, sym, ap, _∙_}
+use mathlib.Core.Path.{sym, ap, _∙_}
 use lib.IntN.{pos}
 use Rattle.numbers.proofs.Machine.{stored-id}
 use Rattle.adjust.proofs.Holding.{holding-none}

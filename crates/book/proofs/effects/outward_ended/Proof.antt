@@ -1,5 +1,5 @@
 -- `outward_ended` meets its contract, order by order.
-use mathlib.Core.Path.{_≡_, sym, ap, _∙_}
+use mathlib.Core.Path.{sym, ap, _∙_}
 use mathlib.Core.Bool.{cond}
 use lib.IntN.{ℤ}
 use Rattle.numbers.proofs.Machine.{stored-id}

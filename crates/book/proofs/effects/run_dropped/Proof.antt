@@ -1,5 +1,5 @@
 -- `run_dropped` meets its contract, by that of `with_line`.
-use mathlib.Core.Path.{_≡_, ap, _∙_}
+use mathlib.Core.Path.{ap, _∙_}
 use Rattle.adjust.specs.Sections.{sectionsOf}
 use Rattle.book.specs.declared.Run.{Run}
 use Rattle.book.specs.Standing.{bookWith}

@@ -1,5 +1,5 @@
 -- `with_line` meets its contract: arrays that hold their own list are unchanged.
-use mathlib.Core.Path.{_≡_, sym}
+use mathlib.Core.Path.{sym}
 use Rattle.adjust.proofs.Holding.{Whole, holding-own}
 use borrow.Author.Needs.{needs}
 use Rattle.book.proofs.effects.with_line.Statement.{statement}

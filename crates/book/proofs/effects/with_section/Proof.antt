@@ -1,5 +1,5 @@
 -- `with_section` meets its contract, by those of the line and of the store.
-use mathlib.Core.Path.{_≡_, ap, _∙_}
+use mathlib.Core.Path.{ap, _∙_}
 use Rattle.book.specs.declared.Waiting.the-variants.{Nothing}
 use Rattle.book.specs.Rules.{withRuns}
 use borrow.Author.Needs.{needs}

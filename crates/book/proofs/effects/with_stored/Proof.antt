@@ -1,5 +1,5 @@
 -- `with_stored` meets its contract: one store in each array.
-use mathlib.Core.Path.{_≡_, sym, _∙_}
+use mathlib.Core.Path.{sym, _∙_}
 use Prim.Native.Nat.{_+_}
 use lib.ListN.{set}
 use mir.Syntax.{w64}

@@ -1,9 +1,7 @@
 -- `with_taken_station` meets its contract: a station that is taken has the figures of its readings, and they are small.
 use mathlib.Core.Path.{_≡_, sym, ap, subst, _∙_}
-use lib.IntN.{ℤ}
 use Rattle.numbers.proofs.Tables.{zero-cond}
-use Rattle.numbers.proofs.Machine.{stored, stored-id, stored-both}
-use Rattle.station.specs.declared.Figures.{Figures}
+use Rattle.numbers.proofs.Machine.{stored-id, stored-both}
 use Rattle.station.specs.Bounds.{Small}
 use Rattle.station.specs.Station.{stationOf, figuresOf, noFigures, readingRefusal, figuresIfRead}
 use Rattle.station.proofs.Read.{read, figures-small}

@@ -1,7 +1,7 @@
 -- `drop_refusal` meets its contract, by the parts of a refusal.
-use mathlib.Core.Path.{_≡_, refl, sym, ap, _∙_}
+use mathlib.Core.Path.{refl, sym, _∙_}
 use mathlib.Core.Bool.{not, cond}
-use Rattle.book.specs.Standing.{standingOf, isOpen}
+use Rattle.book.specs.Standing.{standingOf}
 use Rattle.book.specs.Rules.{drop-run}
 use Rattle.book.proofs.Parts.{broken-refused, state-refused}
 use borrow.Author.Needs.{needs}

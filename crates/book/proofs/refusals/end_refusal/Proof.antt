@@ -1,7 +1,6 @@
 -- `end_refusal` meets its contract, by the parts of a refusal.
 use mathlib.Core.Path.{_≡_, sym, ap, _∙_}
 use mathlib.Core.Bool.{Bool, true, false, not, cond}
-use Prim.Native.Nat.{ℕ}
 use native.Mathlib.Omega.{arith}
 use lib.IntN.{ℤ}
 use Rattle.numbers.specs.Tables.{firstOf}

@@ -1,9 +1,8 @@
 -- `end_state` meets its contract: the tests from the last to the first, as the table has them.
-use mathlib.Core.Path.{_≡_, sym, ap, _∙_}
+use mathlib.Core.Path.{sym, ap, _∙_}
 use mathlib.Core.Bool.{not, cond, _&&_, _||_}
-use Prim.Native.Nat.{ℕ, _%_}
+use Prim.Native.Nat.{_%_}
 use lib.Dec.{leb, eqb}
-use lib.ListN.{length}
 use Rattle.numbers.proofs.Machine.{stored-id}
 use Rattle.adjust.proofs.Lists.{from-length}
 use Rattle.book.specs.Standing.{standingOf}

@@ -1,6 +1,5 @@
 -- `is_shut` meets its contract, by that of `on_line`.
-use mathlib.Core.Path.{_≡_, ap, _∙_}
-use lib.IntN.{ℤ}
+use mathlib.Core.Path.{ap, _∙_}
 use mir.Syntax.{w64}
 use mir.Val.{SFits}
 use Rattle.numbers.proofs.Machine.{stored-id}

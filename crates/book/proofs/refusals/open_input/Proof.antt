@@ -1,5 +1,5 @@
 -- `open_input` meets its contract: the tests from the last to the first, as the table has them.
-use mathlib.Core.Path.{_≡_, ap, _∙_}
+use mathlib.Core.Path.{ap, _∙_}
 use mathlib.Core.Bool.{not, cond, _&&_, _||_}
 use lib.IntN.{pos}
 use mir.Facts.{sfits-lit}

@@ -1,11 +1,9 @@
 -- `open_refusal` meets its contract, by the parts of a refusal.
-use mathlib.Core.Path.{_≡_, sym, ap, _∙_}
+use mathlib.Core.Path.{_≡_, sym, _∙_}
 use mathlib.Core.Bool.{not, cond}
-use Prim.Native.Nat.{ℕ}
-use lib.IntN.{ℤ}
 use Rattle.numbers.specs.Tables.{firstOf}
 use Rattle.numbers.proofs.Machine.{stored-id}
-use Rattle.book.specs.Standing.{standingOf, isFresh}
+use Rattle.book.specs.Standing.{standingOf}
 use Rattle.book.specs.Rules.{Call, open-line, inputTests}
 use Rattle.book.proofs.Parts.{input-refused, broken-refused, state-refused}
 use borrow.Author.Needs.{needs}

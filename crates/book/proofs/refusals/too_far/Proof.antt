@@ -1,6 +1,6 @@
 -- `too_far` meets its contract: the sums of two small runs fit.
-use mathlib.Core.Path.{_≡_, sym, ap, subst, _∙_}
-use mathlib.Core.Bool.{Bool, false, not}
+use mathlib.Core.Path.{sym, ap, subst, _∙_}
+use mathlib.Core.Bool.{false, not}
 use lib.IntN.{ℤ, _+ℤ_}
 use Rattle.numbers.proofs.Machine.{stored}
 use Rattle.numbers.proofs.Chain.{Value, known, add, fits, kept}

@@ -1,8 +1,6 @@
 -- `is_broken` meets its contract: the list has as many sections as the arrays count.
-use mathlib.Core.Path.{_≡_, sym, ap, _∙_}
+use mathlib.Core.Path.{sym, ap, _∙_}
 use mathlib.Core.Bool.{_||_}
-use Prim.Native.Nat.{ℕ}
-use Rattle.adjust.specs.Sections.{misfit, sectionsOf}
 use Rattle.adjust.proofs.Lists.{from-length}
 use Rattle.book.specs.Standing.{lineBroken, misplaced, broken}
 use borrow.Author.Needs.{needs}

@@ -1,5 +1,5 @@
 -- `line_broken` meets its contract, test by test.
-use mathlib.Core.Path.{_≡_, ap, _∙_}
+use mathlib.Core.Path.{ap, _∙_}
 use mathlib.Core.Bool.{not, _||_}
 use mir.Syntax.{w64}
 use mir.Val.{SFits}

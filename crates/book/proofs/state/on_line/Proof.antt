@@ -16,7 +16,7 @@ use Rattle.numbers.proofs.Equal.{eq-as}
 use Rattle.numbers.proofs.Machine.{stored, stored-id}
 use Rattle.adjust.specs.declared.Section.{Section}
 use Rattle.adjust.specs.declared.Sections.{Sections}
-use Rattle.adjust.specs.Sections.{sectionAt, sectionsOf}
+use Rattle.adjust.specs.Sections.{sectionsOf}
 use Rattle.adjust.proofs.Lists.{remaining, all-remain, next-remains, none-remain}
 use Rattle.book.proofs.state.on_line.Statement.{statement}
 use Rattle.book.proofs.state.on_line.Tie as tie

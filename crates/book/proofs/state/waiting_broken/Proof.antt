@@ -1,6 +1,6 @@
 -- `waiting_broken` meets its contract, by whether a run waits.
-use mathlib.Core.Path.{_≡_, sym, ap, _∙_}
-use mathlib.Core.Bool.{Bool, not, _||_}
+use mathlib.Core.Path.{sym, ap, _∙_}
+use mathlib.Core.Bool.{not, _||_}
 use lib.Dec.{leb}
 use Rattle.book.specs.declared.Waiting.{Waiting}
 use Rattle.book.specs.Standing.{waitingBroken}

@@ -5,7 +5,7 @@ use Prim.Native.Nat.{ℕ, zero, suc, _+_, _*_, _%_, _≤_, _<_}
 use native.Mathlib.Omega.{arith}
 use lib.Dec.{ltb}
 use lib.IntN.{ℤ, pos, negsuc, natAbs, _+ℤ_, _-ℤ_, _*ℤ_, +ℤ-idr}
-use lib.Signed.{_≤ℤ_, _<ℤ_, ltZ, quotZ, remZ}
+use lib.Signed.{_≤ℤ_, ltZ, quotZ, remZ}
 use borrow.Author.Needs.{needs}
 use mir.Syntax.{w64}
 use mir.Val.{SFits, toZ, boolByte}
@@ -13,7 +13,7 @@ use Rattle.numbers.proofs.Parts.{ints, parts-abs, pos-abs}
 use Rattle.numbers.proofs.Sizes.{abs-neg, square-abs}
 use Rattle.numbers.proofs.Machine.{stored, stored-id, stored-as, fits-as, abs-fits, literal-as, add-as, mul-as, quot-as, rem-as, lt-as, bool-as}
 use Rattle.roots.specs.Round.{roundEven, floorDiv, divisor}
-use Rattle.roots.proofs.Floor.{Split, floor-split, floor-fits, quot-fits}
+use Rattle.roots.proofs.Floor.{floor-split, floor-fits, quot-fits}
 use Rattle.roots.proofs.RoundLaws.{round-fits, divisor-range}
 use Rattle.roots.proofs.rounding.round_half_even.Statement.{statement}
 use Rattle.roots.proofs.rounding.round_half_even.Tie as tie

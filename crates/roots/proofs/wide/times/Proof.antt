@@ -1,9 +1,7 @@
 -- `times` meets its contract: the lower product's carry goes to the upper digit.
-use Prim.Native.Nat.{ℕ, _+_, _*_, _≤_, _<_}
+use Prim.Native.Nat.{ℕ, _*_, _≤_, _<_}
 use native.Mathlib.Nat.{mul-le-mul, mul-add, mul-assoc}
 use native.Mathlib.Omega.{arith}
-use Rattle.roots.specs.Wide.{Digits, valueOf}
-use Rattle.roots.specs.declared.wide.Wide.{Wide}
 use Rattle.roots.proofs.wide.times.Statement.{statement}
 use Rattle.roots.proofs.wide.times.Tie as tie
 
