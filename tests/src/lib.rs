@@ -1,10 +1,12 @@
 //! Another implementation of the levelling book, written from document 01 alone, and safe names for the proved functions, so that tests compare the two.
 //!
 //! The other implementation: `fraction`, `station`, `rules`, `plain`, `standing`, `adjust`. Inputs for comparisons: `random`, `lent`, and for lists of
-//! calls `shoot`, `party`, `aim`, `trouble`, `work`, `generate`, `mutate`.
+//! calls `shoot`, `party`, `aim`, `trouble`, `work`, `generate`, `mutate`. The text book and the report, ahead of the proved ones: `text`, `write`, `report`,
+//! `damage`.
 
 pub mod adjust;
 pub mod aim;
+pub mod damage;
 pub mod exports;
 pub mod fraction;
 pub mod generate;
@@ -13,9 +15,12 @@ pub mod mutate;
 pub mod party;
 pub mod plain;
 pub mod random;
+pub mod report;
 pub mod rules;
 pub mod shoot;
 pub mod standing;
 pub mod station;
+pub mod text;
 pub mod trouble;
 pub mod work;
+pub mod write;
