@@ -18,7 +18,7 @@ use Rattle.book.specs.Standing.{isClosed}
 use Rattle.ledger.specs.Plain.{Reading, freshReading, sectionOf, figuresOf}
 use Rattle.ledger.proofs.Traced.{points-length}
 use Rattle.fieldbook.specs.Text.{Refusal, refusalsFrom, readingAfter}
-use Rattle.fieldbook.specs.Report.{refLine, pointLine, openLine, closingLines, resultLines, reportOf, withoutHeading, reportLines, report}
+use Rattle.fieldbook.specs.Report.{refLine, closedNumbers, pointNumbers, pointLine, openLine, closingLines, resultLines, reportOf, withoutHeading, reportLines, report}
 use Rattle.fieldbook.specs.Fits.{ReportFits}
 use Rattle.fieldbook.proofs.Size.{stageLines, waitingLines, least, lines-count}
 
@@ -55,12 +55,12 @@ ref-short : (x : Refusal) → length (refLine x) ≤ 84
 ref-short x = tag-short (82 ∷ 69 ∷ 70 ∷ []) (pos (x .line) ∷ pos (x .number) ∷ []) false
 
 point-short : (p : Point) → length (pointLine p) ≤ 84
-point-short p = tag-short (80 ∷ 78 ∷ 84 ∷ []) (p .number ∷ p .distance ∷ p .correction ∷ p .height ∷ []) (isWide (p .height))
+point-short p = tag-short (80 ∷ 78 ∷ 84 ∷ []) (pointNumbers p) (isWide (p .height))
 
 closing-short : (c : Closing) → Short (closingLines c)
 closing-short c =
     let s = c .summary in
-    (tag-short (67 ∷ 76 ∷ 79 ∷ []) (s .closure ∷ s .distance ∷ pos (s .count) ∷ s .accidental ∷ pos (s .verdict) ∷ []) false, map-short pointLine point-short (c .points))
+    (tag-short (67 ∷ 76 ∷ 79 ∷ []) (closedNumbers s) false, map-short pointLine point-short (c .points))
 
 result-short : (r : Reading) → Short (resultLines r)
 result-short r = go (isClosed (r .stage))

@@ -4,7 +4,7 @@ use mathlib.Core.List.{List, [], _∷_, _++_, map}
 use Prim.Native.Nat.{ℕ}
 use lib.ListN.{length}
 use lib.Dec.{ltb}
-use lib.IntN.{pos}
+use lib.IntN.{ℤ, pos}
 use Rattle.numbers.specs.Tables.{firstOf}
 use Rattle.adjust.specs.declared.Point.{Point}
 use Rattle.adjust.specs.declared.Summary.{Summary}
@@ -23,13 +23,21 @@ use Rattle.fieldbook.specs.Text.{Refusal, refusalsFrom, readingAfter}
 abbrev pub refLine : Refusal → List ℕ
 refLine x = tagLine (82 ∷ 69 ∷ 70 ∷ []) (pos (x .line) ∷ pos (x .number) ∷ []) false
 
--- "CLO", W, L, n, T and the verdict
-abbrev pub closedLine : Summary → List ℕ
-closedLine s = tagLine (67 ∷ 76 ∷ 79 ∷ []) (s .closure ∷ s .distance ∷ pos (s .count) ∷ s .accidental ∷ pos (s .verdict) ∷ []) false
+-- W, L, n, T and the verdict
+abbrev pub closedNumbers : Summary → List ℤ
+closedNumbers s = s .closure ∷ s .distance ∷ pos (s .count) ∷ s .accidental ∷ pos (s .verdict) ∷ []
 
--- "PNT", number, distance, correction and height
+-- "CLO"
+abbrev pub closedLine : Summary → List ℕ
+closedLine s = tagLine (67 ∷ 76 ∷ 79 ∷ []) (closedNumbers s) false
+
+-- number, distance, correction and height
+abbrev pub pointNumbers : Point → List ℤ
+pointNumbers p = p .number ∷ p .distance ∷ p .correction ∷ p .height ∷ []
+
+-- "PNT"
 abbrev pub pointLine : Point → List ℕ
-pointLine p = tagLine (80 ∷ 78 ∷ 84 ∷ []) (p .number ∷ p .distance ∷ p .correction ∷ p .height ∷ []) (isWide (p .height))
+pointLine p = tagLine (80 ∷ 78 ∷ 84 ∷ []) (pointNumbers p) (isWide (p .height))
 
 -- "OPN", the finished sections
 abbrev pub openLine : Reading → List ℕ
