@@ -13,7 +13,7 @@ pub mod calls;
 mod closing;
 mod effects;
 mod refusals;
-mod state;
+pub mod state;
 
 pub enum Stage {
     Fresh,

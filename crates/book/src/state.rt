@@ -35,7 +35,7 @@ pub(crate) fn is_open(stage: Stage) -> bool
     }
 }
 
-pub(crate) fn is_closed(stage: Stage) -> bool
+pub fn is_closed(stage: Stage) -> bool
     ensures { λ r. ⌜ r ≡ isClosed stage ⌝ }
 {
     match stage {

@@ -27,7 +27,7 @@ pub enum Tag {
 // What a line is: a record with this tag, or refused with this number of document 01.
 pub enum Kind {
     Record(Tag),
-    Refused(u64),
+    Refused(u8),
 }
 
 // A line, with its numbers; the places past them, and all places of a refused line, are 0.
@@ -115,7 +115,7 @@ fn read_field(bs: &[u8]) -> Field
 }
 
 // A line refused with this number of document 01.
-fn refused(number: u64) -> Line
+fn refused(number: u8) -> Line
     ensures { λ r. ⌜ r ≡ refusedLine number ⌝ }
 {
     Line {

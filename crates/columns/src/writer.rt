@@ -3,11 +3,11 @@ ghost use mathlib.Core.Path.{_≡_};
 ghost use mathlib.Core.Bool.{true, false};
 ghost use mathlib.Core.List.{_++_};
 ghost use Prim.Native.Nat.{_+_, _-_, _≤_};
-ghost use lib.IntN.{natAbs};
 ghost use lib.ListN.{length};
 ghost use Rattle.columns.specs.Buffers.{putAt, placed};
 ghost use Rattle.columns.specs.Decimals.{blanks, digits, decimal, fitsIn, pad};
 ghost use Rattle.columns.specs.Lines.{widthOf, fields, allFit, columnsOf, lineFits, lineWith, tagLine, isWide, title};
+use roots::limits::magnitude;
 
 // The bytes of s from index at on.
 fn put_bytes(buf: &mut [u8], at: usize, s: &[u8])
@@ -31,13 +31,6 @@ fn put_blanks(buf: &mut [u8], at: usize, n: usize)
         buf[at + i] = b' ';
         i += 1;
     }
-}
-
-// The magnitude of x, which for the least i64 is 2^63.
-fn magnitude(x: i64) -> u64
-    ensures { λ r. ⌜ r ≡ natAbs x ⌝ }
-{
-    if x < 0 { (-1 - x) as u64 + 1 } else { x as u64 }
 }
 
 // How many digits x has.

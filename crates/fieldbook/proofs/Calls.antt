@@ -3,6 +3,7 @@ use mathlib.Core.Path.{_≡_, refl, sym, ap, _∙_}
 use mathlib.Core.Bool.{cond}
 use mathlib.Core.List.{List, [], _∷_}
 use Prim.Native.Nat.{ℕ}
+use lib.ListN.{length}
 use Rattle.columns.specs.declared.reader.Kind.{Kind}
 use Rattle.columns.specs.declared.reader.Kind.the-variants.{Record, Refused}
 use Rattle.columns.specs.declared.reader.Line.{Line}
@@ -40,6 +41,6 @@ every-text ls e =
     record {
       closing = every-list (callsOf ls) shut;
       printed =
-          ap (λ (s : Stage). cond (isClosed s) (closingLines (figuresOf r)) (openLine r ∷ [])) e
+          ap (λ (s : Stage). cond (isClosed s) (closingLines (figuresOf r)) (openLine (length (r .sections)) ∷ [])) e
           ∙ ap closingLines (ap figuresOf same ∙ same-figures (callsOf ls) shut);
     }

@@ -15,7 +15,7 @@ use Rattle.columns.specs.Lines.{tagLine, isWide, heading, title}
 use Rattle.columns.specs.Texts.{lines, joined}
 use Rattle.book.specs.Standing.{isClosed}
 use Rattle.ledger.specs.Plain.{Reading, freshReading, figuresOf}
-use Rattle.fieldbook.specs.Text.{Refusal, refusalsFrom, readingAfter}
+use Rattle.fieldbook.specs.Text.{Refusal, lineNumbers, refusalsFrom, readingAfter}
 
 -- ---- its lines
 
@@ -39,16 +39,16 @@ pointNumbers p = p .number ∷ p .distance ∷ p .correction ∷ p .height ∷ [
 abbrev pub pointLine : Point → List ℕ
 pointLine p = tagLine (80 ∷ 78 ∷ 84 ∷ []) (pointNumbers p) (isWide (p .height))
 
--- "OPN", the finished sections
-abbrev pub openLine : Reading → List ℕ
-openLine r = tagLine (79 ∷ 80 ∷ 78 ∷ []) (pos (length (r .sections)) ∷ []) false
+-- "OPN", how many sections are finished
+abbrev pub openLine : ℕ → List ℕ
+openLine n = tagLine (79 ∷ 80 ∷ 78 ∷ []) (pos n ∷ []) false
 
 abbrev pub closingLines : Closing → List (List ℕ)
 closingLines c = closedLine (c .summary) ∷ map pointLine (c .points)
 
 -- of the reading after the last line
 abbrev pub resultLines : Reading → List (List ℕ)
-resultLines r = cond (isClosed (r .stage)) (closingLines (figuresOf r)) (openLine r ∷ [])
+resultLines r = cond (isClosed (r .stage)) (closingLines (figuresOf r)) (openLine (length (r .sections)) ∷ [])
 
 -- ---- the report
 
@@ -61,7 +61,7 @@ withoutHeading = reportOf (record { line = 1; number = 1 } ∷ []) freshReading
 
 abbrev pub reportLines : List (List ℕ) → List (List ℕ)
 reportLines [] = withoutHeading
-reportLines (l ∷ ls) = cond (same l heading) (reportOf (refusalsFrom 2 freshReading ls) (readingAfter freshReading ls)) withoutHeading
+reportLines (l ∷ ls) = cond (same l heading) (reportOf (refusalsFrom 2 (lineNumbers freshReading ls)) (readingAfter freshReading ls)) withoutHeading
 
 unfoldable pub report : List ℕ → List ℕ
 report text = joined (reportLines (lines text))

@@ -2,7 +2,6 @@
 use mathlib.Core.Bool.{cond}
 use mathlib.Core.List.{List, [], _∷_, _++_}
 use Prim.Native.Nat.{ℕ, suc}
-use lib.ListN.{getD}
 use lib.Dec.{eqb}
 use lib.IntN.{ℤ, pos}
 use Rattle.columns.specs.declared.reader.Tag.{Tag}
@@ -11,22 +10,24 @@ use Rattle.columns.specs.declared.reader.Kind.{Kind}
 use Rattle.columns.specs.declared.reader.Kind.the-variants.{Record, Refused}
 use Rattle.columns.specs.declared.reader.Line.{Line}
 use Rattle.columns.specs.Records.{lineIn}
-use Rattle.book.specs.Rules.{Call, open-line, station, end-run, drop-run, drop-section, close-line}
+use Rattle.book.specs.Rules.{Call}
 use Rattle.ledger.specs.Plain.{Reading, next, refusal}
+use Rattle.runner.specs.Calls as Calls
 
 -- ---- a line
 
--- the call of a record: of a station the constant and the four readings back, then fore
+-- the kind of a tag's calls in a list of numbers
+abbrev pub kindOf : Tag → ℤ
+kindOf Lin = pos 1
+kindOf Sta = pos 2
+kindOf Run = pos 3
+kindOf Drr = pos 4
+kindOf Drs = pos 5
+kindOf End = pos 6
+
+-- a record's numbers are its call's arguments, in order
 abbrev pub callOf : Tag → List ℤ → Call
-callOf Lin v = open-line (getD v 0 (pos 0)) (getD v 1 (pos 0)) (getD v 2 (pos 0)) (getD v 3 (pos 0))
-callOf Sta v = station (getD v 0 (pos 0)) (getD v 5 (pos 0)) (staff 1 ∷ staff 6 ∷ [])
-  where
-    staff : ℕ → List ℤ
-    staff k = getD v k (pos 0) ∷ getD v (suc k) (pos 0) ∷ getD v (suc (suc k)) (pos 0) ∷ getD v (suc (suc (suc k))) (pos 0) ∷ []
-callOf Run v = end-run (getD v 0 (pos 0))
-callOf Drr v = drop-run
-callOf Drs v = drop-section
-callOf End v = close-line (getD v 0 (pos 0)) (getD v 1 (pos 0))
+callOf t v = Calls.callOf (kindOf t ∷ v)
 
 -- the calls that a line makes: one, or none where it is refused as a line
 abbrev pub callsIn : Line → List Call
@@ -53,17 +54,10 @@ lineNext r l = go (l .kind)
 
 -- ---- the lines after the first
 
--- a refused line of the text, counted from 1
-pub record Refusal : Type 0 where
-  pub line : ℕ
-  pub number : ℕ
-
--- the refusals of lines from line k on, in order
-abbrev pub refusalsFrom : ℕ → Reading → List (List ℕ) → List Refusal
-refusalsFrom k r [] = []
-refusalsFrom k r (l ∷ ls) =
-    cond (eqb (lineRefusal r (lineIn l)) 0) [] (record { line = k; number = lineRefusal r (lineIn l) } ∷ [])
-    ++ refusalsFrom (suc k) (lineNext r (lineIn l)) ls
+-- the refusal number of each line
+abbrev pub lineNumbers : Reading → List (List ℕ) → List ℕ
+lineNumbers r [] = []
+lineNumbers r (l ∷ ls) = lineRefusal r (lineIn l) ∷ lineNumbers (lineNext r (lineIn l)) ls
 
 abbrev pub readingAfter : Reading → List (List ℕ) → Reading
 readingAfter r [] = r
@@ -73,3 +67,15 @@ readingAfter r (l ∷ ls) = readingAfter (lineNext r (lineIn l)) ls
 abbrev pub callsOf : List (List ℕ) → List Call
 callsOf [] = []
 callsOf (l ∷ ls) = callsIn (lineIn l) ++ callsOf ls
+
+-- ---- refusals
+
+-- a refused line of the text, counted from 1
+pub record Refusal : Type 0 where
+  pub line : ℕ
+  pub number : ℕ
+
+-- the refusals among the numbers of lines from line k on, in order
+unfoldable pub refusalsFrom : ℕ → List ℕ → List Refusal
+refusalsFrom k [] = []
+refusalsFrom k (n ∷ ns) = cond (eqb n 0) [] (record { line = k; number = n } ∷ []) ++ refusalsFrom (suc k) ns
