@@ -2,3 +2,4 @@
 pub mod Size
 pub mod Bytes
 pub mod Calls
+pub mod States

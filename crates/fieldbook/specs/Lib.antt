@@ -1,4 +1,5 @@
 pub mod Text
+pub mod State
 pub mod Report
 pub mod Fits
 pub mod Claims

@@ -17,17 +17,17 @@ use Rattle.runner.specs.Calls as Calls
 -- ---- a line
 
 -- the kind of a tag's calls in a list of numbers
-abbrev pub kindOf : Tag → ℤ
-kindOf Lin = pos 1
-kindOf Sta = pos 2
-kindOf Run = pos 3
-kindOf Drr = pos 4
-kindOf Drs = pos 5
-kindOf End = pos 6
+abbrev pub kindOf : Tag → ℕ
+kindOf Lin = 1
+kindOf Sta = 2
+kindOf Run = 3
+kindOf Drr = 4
+kindOf Drs = 5
+kindOf End = 6
 
 -- a record's numbers are its call's arguments, in order
 abbrev pub callOf : Tag → List ℤ → Call
-callOf t v = Calls.callOf (kindOf t ∷ v)
+callOf t v = Calls.callOf (pos (kindOf t) ∷ v)
 
 -- the calls that a line makes: one, or none where it is refused as a line
 abbrev pub callsIn : Line → List Call

@@ -1,1 +1,2 @@
-// The text book and its report: definitions, ahead of the code that is proved against them.
+// The text book and its report: from the bytes of a text to the bytes of a report.
+mod reading;

@@ -1,0 +1,155 @@
+// A text read line by line.
+ghost use mathlib.Core.Path.{_≡_};
+ghost use mathlib.Core.List.{_∷_};
+ghost use lib.IntN.{pos};
+ghost use lib.ListN.{length};
+ghost use Rattle.fieldbook.specs.Text.{kindOf};
+ghost use Rattle.fieldbook.specs.State.{lineStep, freshState, withHeading, withRecord, stateWith, lineAt, lineCount, stateAfter};
+use book::Book;
+use columns::reader::Kind;
+use columns::reader::Line;
+use columns::reader::Tag;
+use columns::reader::is_heading;
+use columns::reader::parse_line;
+use runner::Step;
+use runner::run_call;
+
+// What the lines read so far leave: the book, and each line's refusal number in the line's place, 0 where it was taken.
+pub struct State {
+    pub book: Book,
+    pub numbers: [u8; 778],
+}
+
+// The kind of a tag's calls in a list of numbers.
+fn kind_of(tag: Tag) -> u8
+    ensures { λ r. ⌜ r ≡ kindOf tag ⌝ }
+{
+    match tag {
+        Tag::Lin => 1,
+        Tag::Sta => 2,
+        Tag::Run => 3,
+        Tag::Drr => 4,
+        Tag::Drs => 5,
+        Tag::End => 6,
+    }
+}
+
+// A record's call in numbers.
+fn call_of(tag: Tag, v: [i64; 10]) -> [i64; 11]
+    ensures { λ r. ⌜ r ≡ pos (kindOf tag) ∷ v ⌝ }
+{
+    let mut call = [0i64; 11];
+    call[0] = kind_of(tag) as i64;
+    let mut k = 0;
+    while k < 10 {
+        let x = v[k];
+        k += 1;
+        call[k] = x;
+    }
+    call
+}
+
+// A line on a book.
+fn step_line(b: Book, line: Line) -> Step
+    ensures { λ r. ⌜ r ≡ lineStep b line ⌝ }
+{
+    let kind = line.kind;
+    let values = line.values;
+    match kind {
+        Kind::Record(tag) => run_call(b, call_of(tag, values)),
+        Kind::Refused(number) => Step {
+            number: number,
+            book: b,
+        },
+    }
+}
+
+// Before line 1: it counts as refused until it is read.
+pub(crate) fn fresh_state() -> State
+    ensures { λ r. ⌜ r ≡ freshState ⌝ }
+{
+    let mut numbers = [0u8; 778];
+    numbers[1] = 1;
+    let book = book::fresh();
+    State { book, numbers }
+}
+
+fn take_heading(s: State, line: &[u8]) -> State
+    ensures { λ r. ⌜ r ≡ withHeading s (now (line .entry)) ⌝ }
+{
+    let book = s.book;
+    let mut numbers = s.numbers;
+    if is_heading(line) {
+        numbers[1] = 0;
+    } else {
+        numbers[1] = 1;
+    }
+    State { book, numbers }
+}
+
+fn take_record(s: State, line: &[u8], number: usize) -> State
+    ensures { λ r. ⌜ r ≡ withRecord s (now (line .entry)) number ⌝ }
+{
+    let step = step_line(s.book, parse_line(line));
+    let refusal = step.number;
+    let book = step.book;
+    let mut numbers = s.numbers;
+    if number < 778 {
+        numbers[number] = refusal;
+    }
+    State { book, numbers }
+}
+
+// A line of the text and its number: the first is the heading, without which no other is read.
+pub(crate) fn take_line(s: State, line: &[u8], number: usize) -> State
+    ensures { λ r. ⌜ r ≡ stateWith s (now (line .entry)) number ⌝ }
+{
+    if number == 1 {
+        return take_heading(s, line);
+    }
+    let numbers = s.numbers;
+    if numbers[1] != 0 {
+        return s;
+    }
+    take_record(s, line, number)
+}
+
+// Line `number` of a text, counted from 1; no bytes where the text has no such line.
+pub(crate) fn line_at<'a>(text: &'a [u8], number: usize) -> &'a [u8]
+    ensures { λ r. ⌜ now r ≡ lineAt (now (text .entry)) number ⌝ }
+{
+    if number == 0 {
+        return &text[0..0];
+    }
+    let before = number - 1;
+    if text.len() / 84 < before {
+        return &text[0..0];
+    }
+    let at = 84 * before;
+    if text.len() - at < 84 {
+        return &text[at..];
+    }
+    let end = at + 84;
+    &text[at..end]
+}
+
+// How many lines a text of n bytes has.
+fn count_lines(n: usize) -> usize
+    ensures { λ r. ⌜ r ≡ lineCount n ⌝ }
+{
+    let whole = n / 84;
+    if n % 84 == 0 { whole } else { whole + 1 }
+}
+
+pub(crate) fn read_text(text: &[u8]) -> State
+    ensures { λ r. ⌜ r ≡ stateAfter (now (text .entry)) (lineCount (length (now (text .entry)))) ⌝ }
+{
+    let n = count_lines(text.len());
+    let mut s = fresh_state();
+    let mut k = 0;
+    while k < n {
+        k += 1;
+        s = take_line(s, line_at(text, k), k);
+    }
+    s
+}
