@@ -1,5 +1,7 @@
--- What the report prints of a closed line, and that it fits its buffer.
+-- What the report prints of a closed line, that it fits (the report its buffer, each number its field), and the reader's state.
 pub mod Size
 pub mod Bytes
 pub mod Calls
+pub mod Figures
+pub mod Widths
 pub mod States

@@ -1,28 +1,30 @@
--- How large a run and a section get: a taken station keeps a run's sums within its count, so runs and the sections made of them fit.
-use mathlib.Core.Path.{_≡_, subst}
-use mathlib.Core.Bool.{true, _&&_}
+-- How large a run and a section get: a taken station keeps a run's sums within its count, so runs and the sections made of them fit, in 64 bits and in
+-- the report's fields.
+use mathlib.Core.Path.{_≡_, ap, subst}
+use mathlib.Core.Bool.{Bool, true, _&&_}
 use mathlib.Core.List.{List}
-use Prim.Native.Nat.{ℕ, _*_, _≤_, _<_}
+use Prim.Native.Nat.{ℕ, _+_, _*_, _≤_, _<_}
 use native.Mathlib.Decide.{decLe}
-use native.Mathlib.Nat.{le-trans, mul-le-mul-left}
+use native.Mathlib.Nat.{le-trans, mul-le-mul, mul-le-mul-right}
 use native.Mathlib.Omega.{arith}
 use borrow.Author.Tests.{le-leb, leb-false}
-use lib.IntN.{ℤ, pos, natAbs, _+ℤ_, _*ℤ_}
+use lib.IntN.{ℤ, pos, natAbs, _+ℤ_, _-ℤ_, _*ℤ_}
 use lib.Signed.{_≤ℤ_, _<ℤ_, ltZ}
 use Rattle.numbers.specs.Whole.{within}
 use Rattle.numbers.proofs.Tests.{and-l, and-r, not-false}
+use Rattle.numbers.proofs.Ring.{ringℤ}
 use Rattle.numbers.proofs.Parts.{ints, parts-add, parts-sub, parts-times, parts-abs, test-lt}
 use Rattle.numbers.proofs.Sizes.{abs-add, abs-sub, abs-mul, square-abs, within-size, within-true, between-true}
 use Rattle.roots.specs.Limit.{isWithin}
-use Rattle.roots.proofs.LimitLaws.{within-le}
+use Rattle.roots.proofs.LimitLaws.{within-le, le-within}
 use Rattle.station.specs.declared.Order.{Order}
 use Rattle.station.specs.declared.Order.the-variants.{Third, Fourth}
 use Rattle.station.specs.declared.Instrument.{Instrument}
 use Rattle.station.specs.declared.Instrument.the-variants.{Ds3, Ds1}
 use Rattle.station.specs.declared.Limits.{Limits}
 use Rattle.station.specs.declared.Figures.{Figures}
-use Rattle.station.specs.Station.{Staff, Station, stationOf, figuresOf, limitsOf, sight, threadsInOrder, readingRefusal}
-use Rattle.station.proofs.Read.{read, figures-small}
+use Rattle.station.specs.Station.{Staff, Station, stationOf, figuresOf, limitsOf, sight, faceDifference, twiceHeight, threadsInOrder, readingRefusal}
+use Rattle.station.proofs.Read.{read}
 use Rattle.adjust.specs.declared.Section.{Section}
 use Rattle.adjust.specs.Sections.{sectionFits}
 use Rattle.book.specs.declared.Run.{Run}
@@ -33,7 +35,7 @@ use Rattle.ledger.proofs.Lowest.{fails}
 pub record Sized (u : Run) : Type 0 where
   pub count : u .count ≤ 200
   -- G and s, by the stations
-  pub height : natAbs (u .height) ≤ 31572 * u .count
+  pub height : natAbs (u .height) ≤ 12006 * u .count
   pub low : pos (u .count) ≤ℤ u .sights
   pub high : u .sights ≤ℤ pos (3000 * u .count)
   -- the accumulated d was tested at the last station
@@ -54,6 +56,10 @@ accumulated-limit : (order : Order) (instrument : Instrument) → limitsOf order
 accumulated-limit Third instrument = omega arith
 accumulated-limit Fourth instrument = omega arith
 
+face-limit : (order : Order) (instrument : Instrument) → limitsOf order instrument .face ≤ 3
+face-limit Third instrument = omega arith
+face-limit Fourth instrument = omega arith
+
 -- a sight by the tests 8 and 24
 abbrev Sight : ℤ → Type 0
 Sight x = (pos 1 ≤ℤ x) × (x ≤ℤ pos 1500)
@@ -64,8 +70,30 @@ sight-size s limit e k h =
     let b : s .black <ℤ s .upper = test-lt (and-r (ltZ (s .lower) (s .black)) (ltZ (s .black) (s .upper)) e) in
     (omega (ints, parts-sub (s .upper) (s .lower)), omega (ints, within-size (sight s) limit k, parts-abs (sight s)))
 
+-- a height by the tests 6 and 27: twice the height of the black faces, less the difference of the two face differences
+height-size : (b f : Staff) (limit : ℕ) → natAbs (b .black) ≤ 3000 → natAbs (f .black) ≤ 3000
+    → within (faceDifference b) limit ≡ true → within (faceDifference f) limit ≡ true → limit ≤ 3 → natAbs (twiceHeight (record { back = b; fore = f })) ≤ 12006
+height-size b f limit h k back fore small =
+    omega (
+      arith,
+      ap natAbs (by-faces (b .black) (f .black) (b .red) (f .red) (b .constant) (f .constant)),
+      abs-sub (black +ℤ black) (faceDifference b -ℤ faceDifference f),
+      abs-add black black,
+      abs-sub (b .black) (f .black),
+      abs-sub (faceDifference b) (faceDifference f),
+      within-size (faceDifference b) limit back,
+      within-size (faceDifference f) limit fore,
+    )
+  where
+    black : ℤ
+    black = b .black -ℤ f .black
+
+    by-faces : (mb mf rb rf kb kf : ℤ)
+        → (mb -ℤ mf) +ℤ (rb -ℤ rf) -ℤ (kb -ℤ kf) ≡ ((mb -ℤ mf) +ℤ (mb -ℤ mf)) -ℤ ((kb +ℤ mb -ℤ rb) -ℤ (kf +ℤ mf -ℤ rf))
+    by-faces mb mf rb rf kb kf = simp ringℤ
+
 figures-sized : (u : Run) (f : Figures) (kf : ℤ) → Sized u → u .count < 200
-    → natAbs (f .height) ≤ 31572 → Sight (f .back .sight) → Sight (f .fore .sight) → natAbs (u .difference +ℤ f .difference) ≤ 100
+    → natAbs (f .height) ≤ 12006 → Sight (f .back .sight) → Sight (f .fore .sight) → natAbs (u .difference +ℤ f .difference) ≤ 100
     → Sized (withStation u f kf)
 figures-sized u f kf h few height back fore difference =
     record {
@@ -79,7 +107,7 @@ figures-sized u f kf h few height back fore difference =
     both : ℤ
     both = f .back .sight +ℤ f .fore .sight
 
--- by the tests 6 to 8, 22, 24 and 26
+-- by the tests 6 to 8, 22, 24, 26 and 27
 pub station-sized : (v : Standing) (kb kf : ℤ) (readings : List (List ℤ)) → refusal v (station kb kf readings) ≡ 0
     → Sized (v .line .present) → Sized (withStation (v .line .present) (figuresOf (stationOf kb kf readings)) kf)
 unfolding readingRefusal
@@ -91,8 +119,13 @@ station-sized v kb kf readings e h =
     let back = within (f .back .sight) (l .sight) in
     let fore = within (f .fore .sight) (l .sight) in
     let sights = not-false (back && fore) (from-24 .0) in
+    let face-back = within (f .back .face) (l .face) in
+    let face-fore = within (f .fore .face) (l .face) in
+    let faces = not-false (face-back && face-fore) (from-24 .1 .1 .1 .0) in
     let accumulated = within-size (u .difference +ℤ f .difference) (l .accumulated) (not-false _ (from-24 .1 .1 .0)) in
-    figures-sized u f kf h (leb-false 200 (u .count) (from-21 .1 .0)) (figures-small r .height)
+    figures-sized u f kf h (leb-false 200 (u .count) (from-21 .1 .0))
+    (height-size (x .back) (x .fore) (l .face) (r .back .black) (r .fore .black) (and-l face-back face-fore faces) (and-r face-back face-fore faces)
+    (face-limit order instrument))
     (sight-size (x .back) (l .sight) (r .back-order) (and-l back fore sights) (sight-limit order instrument))
     (sight-size (x .fore) (l .sight) (r .fore-order) (and-r back fore sights) (sight-limit order instrument))
     (le-trans accumulated (accumulated-limit order instrument))
@@ -136,27 +169,51 @@ one-way-fits number u h k =
     section-fits (oneWay number u) (omega (arith, h .height, h .count, abs-mul (pos 2) (u .height)))
     (omega (ints, h .low, parts-times 2 (u .sights))) (omega (ints, h .high, h .count, parts-times 2 (u .sights))) (omega arith)
 
--- D by the test 32
-discrepancy-size : (d r : ℤ) → isWithin 625 d 18 r ≡ true → r ≤ℤ pos 1200000 → natAbs d ≤ 100000
-discrepancy-size d r e h = go (decLe (natAbs d) 100000)
+-- a root limit of a length, as a bound
+pub root-size : (a : ℕ) (x : ℤ) (b : ℕ) (l : ℤ) (k : ℕ) → 0 < a → isWithin a x b l ≡ true → (pos b *ℤ l) ≤ℤ pos (k * k) → natAbs x ≤ k
+root-size a x b l k some e h = go (decLe (natAbs x) k)
   where
-    square : (pos 625 *ℤ pos (natAbs d * natAbs d)) ≤ℤ (pos 18 *ℤ r)
-    square = subst (λ (z : ℤ). (pos 625 *ℤ z) ≤ℤ (pos 18 *ℤ r)) (square-abs d) (within-le 625 d 18 r e)
+    square : (pos a *ℤ pos (natAbs x * natAbs x)) ≤ℤ (pos b *ℤ l)
+    square = subst (λ (z : ℤ). (pos a *ℤ z) ≤ℤ (pos b *ℤ l)) (square-abs x) (within-le a x b l e)
 
-    go : Dec (natAbs d ≤ 100000) → natAbs d ≤ 100000
+    go : Dec (natAbs x ≤ k) → natAbs x ≤ k
     go (yes p) = p
     go (no f) =
-        let above : 100001 ≤ natAbs d = omega arith in
-        omega (ints, square, parts-times 18 r, mul-le-mul-left (natAbs d) above)
+        let above : k + 1 ≤ natAbs x = omega arith in
+        omega (ints, square, mul-le-mul above above, mul-le-mul-right (natAbs x * natAbs x) some)
 
 pub both-ways-fits : (number : ℤ) (out back : Run) → Sized out → Sized back → 0 < back .count
     → discrepancyWithin (bothWays number out back) ≡ true → sectionFits (bothWays number out back) ≡ true
 both-ways-fits number out back h k few e =
     section-fits (bothWays number out back) (omega (arith, h .height, h .count, k .height, k .count, abs-sub (out .height) (back .height))) low high
-    (discrepancy-size (out .height +ℤ back .height) (out .sights +ℤ back .sights) e high)
+    (root-size 625 (out .height +ℤ back .height) 18 (out .sights +ℤ back .sights) 100000 (omega arith) e
+    (omega (ints, high, parts-times 18 (out .sights +ℤ back .sights))))
   where
     low : pos 1 ≤ℤ (out .sights +ℤ back .sights)
     low = omega (ints, h .low, k .low, parts-add (out .sights) (back .sights))
 
     high : (out .sights +ℤ back .sights) ≤ℤ pos 1200000
     high = omega (ints, h .high, h .count, k .high, k .count, parts-add (out .sights) (back .sights))
+
+-- ---- sections are narrow
+
+-- what the fields of the report ask of a section: of its number, of Q (of 400 stations at most), and of D by the test 32
+abbrev pub narrow : Section → Bool
+narrow x = within (x .number) 9999 && within (x .height) 4802400 && discrepancyWithin x
+
+pub one-way-narrow : (number : ℤ) (u : Run) → natAbs number ≤ 9999 → Sized u → narrow (oneWay number u) ≡ true
+one-way-narrow number u n h =
+    rw (
+      within-true number 9999 n,
+      within-true (pos 2 *ℤ u .height) 4802400 (omega (arith, h .height, h .count, abs-mul (pos 2) (u .height))),
+      le-within 625 (pos 0) 18 (pos 2 *ℤ u .sights) (omega (ints, h .low, parts-times 2 (u .sights), parts-times 18 (pos 2 *ℤ u .sights))),
+    )
+
+pub both-ways-narrow : (number : ℤ) (out back : Run) → natAbs number ≤ 9999 → Sized out → Sized back
+    → discrepancyWithin (bothWays number out back) ≡ true → narrow (bothWays number out back) ≡ true
+both-ways-narrow number out back n h k e =
+    rw (
+      within-true number 9999 n,
+      within-true (out .height -ℤ back .height) 4802400 (omega (arith, h .height, h .count, k .height, k .count, abs-sub (out .height) (back .height))),
+      e,
+    )

@@ -8,16 +8,18 @@ use native.Mathlib.Omega.{arith}
 use borrow.Author.Tests.{le-leb, lt-leb, leb-false, eqb-false}
 use lib.Dec.{leb, eqb, eqb→eq}
 use lib.ListN.{length, length-append}
-use lib.IntN.{ℤ, pos}
+use lib.IntN.{ℤ, pos, natAbs}
 use lib.Signed.{_≤ℤ_, leZ}
-use Rattle.numbers.specs.Whole.{within, between, anyOf}
 use Rattle.numbers.specs.Tables.{firstOf}
 use Rattle.numbers.proofs.Tests.{by-test, holds, no-true, and-l, and-r, or-l, or-r, not-false}
 use Rattle.numbers.proofs.Tables.{first-skips}
-use Rattle.numbers.proofs.Parts.{ints, parts-add, test-le}
+use Rattle.numbers.proofs.All.{All, all-head, all-tail, all-cons}
+use Rattle.numbers.proofs.Parts.{ints, parts-abs, test-le}
 use Rattle.adjust.specs.declared.Section.{Section}
-use Rattle.adjust.specs.Sections.{legFits, sectionFits, heightInRange}
+use Rattle.adjust.specs.Sections.{sectionFits, heightInRange}
 use Rattle.adjust.specs.Line.{lineLength}
+use Rattle.adjust.proofs.Lists.{fitted-legs}
+use Rattle.adjust.proofs.Sized.{long}
 use Rattle.book.specs.declared.Stage.{Stage}
 use Rattle.book.specs.declared.Stage.the-variants.{Fresh, Open, Closed}
 use Rattle.book.specs.declared.Run.{Run}
@@ -25,12 +27,12 @@ use Rattle.book.specs.declared.Line.{Line}
 use Rattle.book.specs.declared.Waiting.{Waiting}
 use Rattle.book.specs.declared.Waiting.the-variants.{Nothing, Outward}
 use Rattle.book.specs.Standing.{Standing, isFresh, isOpen, isShut, isEmpty, isReturn, outwardOrReturn, noRun, oneWay, bothWays, twoWay, waitingBroken, misplaced, broken}
-use Rattle.book.specs.Rules.{Call, open-line, station, end-run, drop-run, drop-section, close-line, inputTests, stateTests, refusal, bookRefusal, discrepancyWithin, withRuns, withSection, runEnded, taken}
+use Rattle.book.specs.Rules.{Call, open-line, station, end-run, drop-run, drop-section, close-line, inputTests, stateTests, refusal, bookRefusal, numberInRange, discrepancyWithin, withRuns, withSection, runEnded, taken}
 use Rattle.ledger.specs.Plain as Plain
 use Rattle.ledger.specs.Plain.{Reading, freshReading, after, next, standing}
 use Rattle.ledger.proofs.Follows.{follows}
 use Rattle.ledger.proofs.Lowest.{fails}
-use Rattle.ledger.proofs.Runs.{Sized, no-run-sized, station-sized, run-fits, one-way-fits, both-ways-fits}
+use Rattle.ledger.proofs.Runs.{Sized, no-run-sized, station-sized, run-fits, one-way-fits, both-ways-fits, narrow, one-way-narrow, both-ways-narrow}
 
 -- ---- stages
 
@@ -45,21 +47,20 @@ fresh-not-closed e = let z : _≡_ {A = ℕ} 0 1 = cc in omega arith
 -- what waits beside n sections: a run leaves room for the section that it will be
 abbrev pub Awaits : ℕ → Waiting → Type 0
 Awaits n Nothing = Unit {0}
-Awaits n (Outward number run) = Sized run × (n < 64)
-
--- a section that does not fit
-abbrev pub unfit : Section → Bool
-unfit x = not (sectionFits x)
+Awaits n (Outward number run) = Sized run × (n < 64) × (natAbs number ≤ 9999)
 
 pub record Kept (v : Standing) : Type 0 where
   pub few : length (v .sections) ≤ 64
-  pub fit : anyOf unfit (v .sections) ≡ false
+  pub fit : All sectionFits (v .sections)
   pub present : Sized (v .line .present)
   pub waiting : Awaits (length (v .sections)) (v .line .waiting)
   pub start : heightInRange (v .line .start .height) ≡ true
   pub end : heightInRange (v .line .end) ≡ true
   pub closed : v .line .stage ≡ Closed → 1 ≤ length (v .sections)
   pub placed : misplaced (v .line) (length (v .sections)) ≡ false
+  -- what the report's fields ask
+  pub number : natAbs (v .line .start .number) ≤ 9999
+  pub narrow-sections : All narrow (v .sections)
 
 -- so the test of 20 does not hold
 kept-whole : (v : Standing) → Kept v → broken v ≡ false
@@ -88,28 +89,53 @@ not-fresh Closed e = refl
 open-placed : (l : Line) (n : ℕ) → isOpen (l .stage) ≡ true → isReturn (l .waiting) && not (twoWay (l .order)) ≡ false → misplaced l n ≡ false
 open-placed l n o e = λ j. (not-fresh (l .stage) o j && not (eqb n 0 && eqb (l .present .count) 0 && not (isReturn (l .waiting)))) || e j
 
+-- other runs beside the same sections
+runs-kept : (v : Standing) (w : Waiting) (u : Run) → Kept v → isOpen (v .line .stage) ≡ true → Awaits (length (v .sections)) w → Sized u
+    → isReturn w && not (twoWay (v .line .order)) ≡ false → Kept (record { line = withRuns (v .line) w u; sections = v .sections })
+runs-kept v w u i o k h e =
+    record {
+      few = i .few;
+      fit = i .fit;
+      present = h;
+      waiting = k;
+      start = i .start;
+      end = i .end;
+      closed = i .closed;
+      placed = open-placed (withRuns (v .line) w u) (length (v .sections)) o e;
+      number = i .number;
+      narrow-sections = i .narrow-sections;
+    }
+
 -- ---- the end of a run
 
-none-append : (p : Section → Bool) (xs : List Section) (x : Section) → anyOf p xs ≡ false → p x ≡ false → anyOf p (xs ++ (x ∷ [])) ≡ false
-none-append p [] x e k = λ j. k j || false
-none-append p (y ∷ ys) x e k = λ j. or-l (p y) (anyOf p ys) e j || none-append p ys x (or-r (p y) (anyOf p ys) e) k j
+all-append : (p : Section → Bool) (xs : List Section) (x : Section) → All p xs → p x ≡ true → All p (xs ++ (x ∷ []))
+all-append p [] x e k = all-cons p x [] k refl
+all-append p (y ∷ ys) x e k = all-cons p y (ys ++ (x ∷ [])) (all-head p y ys e) (all-append p ys x (all-tail p y ys e) k)
 
 -- a section more, one that fits and for which there is room
-section-kept : (v : Standing) (x : Section) → Kept v → isOpen (v .line .stage) ≡ true → length (v .sections) < 64 → sectionFits x ≡ true
+section-kept : (v : Standing) (x : Section) → Kept v → isOpen (v .line .stage) ≡ true → length (v .sections) < 64 → sectionFits x ≡ true → narrow x ≡ true
     → Kept (withSection v x)
-section-kept v x i o room e =
+section-kept v x i o room e n =
     record {
       few = rw (length-append (v .sections) (x ∷ [])) (omega arith);
-      fit = none-append unfit (v .sections) x (i .fit) (ap not e);
+      fit = all-append sectionFits (v .sections) x (i .fit) e;
       present = no-run-sized;
       waiting = tt;
       start = i .start;
       end = i .end;
       closed = λ c. rw (length-append (v .sections) (x ∷ [])) (omega arith);
       placed = open-placed (withSection v x .line) (length (withSection v x .sections)) o refl;
+      number = i .number;
+      narrow-sections = all-append narrow (v .sections) x (i .narrow-sections) n;
     }
 
--- by the tests 21, 29, 31 and 32
+number-size : (n : ℤ) → numberInRange n ≡ true → natAbs n ≤ 9999
+number-size n e =
+    let low : pos 1 ≤ℤ n = test-le (and-l (leZ (pos 1) n) (leZ n (pos 9999)) e) in
+    let high : n ≤ℤ pos 9999 = test-le (and-r (leZ (pos 1) n) (leZ n (pos 9999)) e) in
+    omega (ints, parts-abs n)
+
+-- by the tests 4, 21, 29, 31 and 32
 run-kept : (v : Standing) (number : ℤ) → Kept v → refusal v (end-run number) ≡ 0 → Kept (runEnded v number)
 run-kept v number i e =
     let from-29 = fails v (end-run number) e .1 .1 in
@@ -118,6 +144,9 @@ run-kept v number i e =
   where
     running : isOpen (v .line .stage) ≡ true
     running = not-false (isOpen (v .line .stage)) (or-l (not (isOpen (v .line .stage))) (isShut v) (fails v (end-run number) e .1 .0))
+
+    small : natAbs number ≤ 9999
+    small = number-size number (not-false (numberInRange number) (fails v (end-run number) e .0))
 
     u : Run
     u = v .line .present
@@ -130,21 +159,13 @@ run-kept v number i e =
         → Kept (outwardOrReturn w
         (cond t (record { line = withRuns (v .line) (Outward number u) noRun; sections = v .sections }) (withSection v (oneWay number u)))
         (λ outward run. withSection v (bothWays outward run u)))
-    go Nothing true both some k room d =
-        record {
-          few = i .few;
-          fit = i .fit;
-          present = no-run-sized;
-          waiting = (i .present, leb-false 64 n room);
-          start = i .start;
-          end = i .end;
-          closed = i .closed;
-          placed = open-placed (withRuns (v .line) (Outward number u) noRun) n running (λ j. not (both j));
-        }
-    go Nothing false both some k room d = section-kept v (oneWay number u) i running (leb-false 64 n room) (one-way-fits number u (i .present) some)
+    go Nothing true both some k room d = runs-kept v (Outward number u) noRun i running (i .present, leb-false 64 n room, small) no-run-sized (λ j. not (both j))
+    go Nothing false both some k room d =
+        section-kept v (oneWay number u) i running (leb-false 64 n room) (one-way-fits number u (i .present) some) (one-way-narrow number u small (i .present))
     go (Outward outward run) t both some k room d =
-        section-kept v (bothWays outward run u) i running (k .1)
-        (both-ways-fits outward run u (k .0) (i .present) some (not-false (discrepancyWithin (bothWays outward run u)) d))
+        let near = not-false (discrepancyWithin (bothWays outward run u)) d in
+        section-kept v (bothWays outward run u) i running (k .1) (both-ways-fits outward run u (k .0) (i .present) some near)
+        (both-ways-narrow outward run u (k .2) (k .0) (i .present) near)
 
 -- ---- a call
 
@@ -158,34 +179,27 @@ running-station v kb kf readings e =
     (or-l (not (isOpen (v .line .stage))) (isShut v) (fails v (station kb kf readings) e .1 .1 .1 .0))
 
 taken-kept : (v : Standing) (c : Call) → Kept v → refusal v c ≡ 0 → Kept (taken v c)
--- by the test 5
+-- by the tests 4 and 5
 taken-kept v (open-line order instrument number height) i e =
+    let from-3 = fails v (open-line order instrument number height) e in
     record {
       few = omega arith;
       fit = refl;
       present = no-run-sized;
       waiting = tt;
-      start = not-false (heightInRange height) (fails v (open-line order instrument number height) e .1 .1 .0);
+      start = not-false (heightInRange height) (from-3 .1 .1 .0);
       end = refl;
       closed = λ c. absurd (open-not-closed c);
       placed = refl;
+      number = number-size number (not-false (numberInRange number) (from-3 .1 .0));
+      narrow-sections = refl;
     }
 taken-kept v (station kb kf readings) i e =
-    record {
-      few = i .few;
-      fit = i .fit;
-      present = station-sized v kb kf readings e (i .present);
-      waiting = i .waiting;
-      start = i .start;
-      end = i .end;
-      closed = i .closed;
-      placed = open-placed (taken v (station kb kf readings) .line) (length (v .sections)) (running-station v kb kf readings e) (no-stray v i);
-    }
+    runs-kept v (v .line .waiting) _ i (running-station v kb kf readings e) (i .waiting) (station-sized v kb kf readings e (i .present)) (no-stray v i)
 taken-kept v (end-run number) i e = run-kept v number i e
 taken-kept v drop-run i e =
-    record { few = i .few; fit = i .fit; present = no-run-sized; waiting = i .waiting; start = i .start; end = i .end; closed = i .closed; placed = open-placed (taken v drop-run .line) (length (v .sections)) (not-false (isOpen (v .line .stage)) (fails v drop-run e .0)) (no-stray v i) }
-taken-kept v drop-section i e =
-    record { few = i .few; fit = i .fit; present = no-run-sized; waiting = tt; start = i .start; end = i .end; closed = i .closed; placed = open-placed (taken v drop-section .line) (length (v .sections)) (not-false (isOpen (v .line .stage)) (fails v drop-section e .0)) refl }
+    runs-kept v (v .line .waiting) noRun i (not-false (isOpen (v .line .stage)) (fails v drop-run e .0)) (i .waiting) no-run-sized (no-stray v i)
+taken-kept v drop-section i e = runs-kept v Nothing noRun i (not-false (isOpen (v .line .stage)) (fails v drop-section e .0)) tt no-run-sized refl
 -- by the tests 5 and 33
 taken-kept v (close-line number end) i e =
     let from-4 = fails v (close-line number end) e in
@@ -200,6 +214,8 @@ taken-kept v (close-line number end) i e =
       closed =
           λ c. not-empty (v .sections) (or-r (not (eqb (v .line .present .count) 0) || isReturn (v .line .waiting)) (isEmpty (v .sections)) (from-33 .0));
       placed = no-stray v i;
+      number = i .number;
+      narrow-sections = i .narrow-sections;
     }
 
 -- ---- no call shortens the list of sections: one that opens a line finds none
@@ -245,7 +261,7 @@ after-kept (c ∷ cs) r i = after-kept cs (next r c) (next-kept r c i)
 
 pub fresh-kept : Kept (standing freshReading)
 fresh-kept =
-    record { few = omega arith; fit = refl; present = no-run-sized; waiting = tt; start = refl; end = refl; closed = λ c. absurd (fresh-not-closed c); placed = refl }
+    record { few = omega arith; fit = refl; present = no-run-sized; waiting = tt; start = refl; end = refl; closed = λ c. absurd (fresh-not-closed c); placed = refl; number = omega arith; narrow-sections = refl }
 
 pub calls-kept : (calls : List Call) → Kept (standing (after freshReading calls))
 calls-kept calls = after-kept calls freshReading fresh-kept
@@ -263,22 +279,9 @@ same-refusal v c i =
 
 -- ---- the length
 
-section-long : (x : Section) → unfit x ≡ false → pos 1 ≤ℤ x .distance
-section-long x e =
-    test-le (and-l (leZ (pos 1) (x .distance)) (leZ (x .distance) (pos 1200000))
-    (and-r (within (x .height) 50000000) (between (pos 1) (x .distance) (pos 1200000))
-    (and-l (legFits x) (within (x .discrepancy) 100000) (not-false (sectionFits x) e))))
-
--- a line is as long as it has sections
-line-long : (ss : List Section) → anyOf unfit ss ≡ false → pos (length ss) ≤ℤ lineLength ss
-line-long [] e = omega ints
-line-long (x ∷ xs) e =
-    let h : pos 1 ≤ℤ x .distance = section-long x (or-l (unfit x) (anyOf unfit xs) e) in
-    let k : pos (length xs) ≤ℤ lineLength xs = line-long xs (or-r (unfit x) (anyOf unfit xs) e) in
-    omega (ints, parts-add (x .distance) (lineLength xs))
-
 pub closed-long : (calls : List Call) → after freshReading calls .stage ≡ Closed
     → pos 1 ≤ℤ lineLength (standing (after freshReading calls) .sections)
 closed-long calls e =
     let i : Kept (standing (after freshReading calls)) = calls-kept calls in
-    omega (ints, line-long (standing (after freshReading calls) .sections) (i .fit), i .closed e)
+    let ss : List Section = standing (after freshReading calls) .sections in
+    omega (ints, long ss (fitted-legs ss (i .fit)), i .closed e)
