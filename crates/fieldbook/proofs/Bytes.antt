@@ -93,7 +93,7 @@ report-few refusals r = omega (arith, length-append (map refLine refusals) (resu
 
 -- ---- the lines of a text
 
-text-lines : (f : ℕ) (t : List ℕ) → 84 * length (linesBy f t) ≤ length t + 83
+pub text-lines : (f : ℕ) (t : List ℕ) → 84 * length (linesBy f t) ≤ length t + 83
 unfolding linesBy
 text-lines zero t = omega arith
 text-lines (suc f) [] = omega arith

@@ -5,4 +5,6 @@ pub mod Calls
 pub mod Figures
 pub mod Widths
 pub mod States
+pub mod Lines
 pub mod Written
+pub mod Reports
