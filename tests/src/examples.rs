@@ -29,6 +29,11 @@ pub fn examples() -> Vec<Example> {
     names.into_iter().map(example).collect()
 }
 
+/// The book of one of them.
+pub fn book(name: &str) -> Vec<u8> {
+    example(name.to_string()).book
+}
+
 fn example(name: String) -> Example {
     let file = |end: &str| path("examples").join(format!("{name}.{end}"));
     let whole = |end: &str| fs::read(file(end)).unwrap_or_else(|error| panic!("{name}.{end}: {error}"));

@@ -5,6 +5,7 @@ extern "C" {
     fn level_root_within(a: u16, x: i64, b: u16, l: i64) -> bool;
     fn level_adjust(legs: *const Leg, count: usize, start: i64, end: i64, heights: *mut i64, places: usize) -> u8;
     fn level_run(calls: *const i64, count: usize, numbers: *mut u8, answers: usize, figures: *mut i64, places: usize);
+    fn level_reduce(text: *const u8, text_length: usize, report: *mut u8, report_length: usize, length: *mut usize) -> u8;
 }
 
 /// The nearest whole number to n / d, a tie going to the even one.
@@ -37,4 +38,15 @@ pub fn adjust(start: i64, end: i64, legs: &[Leg], heights: &mut [i64]) -> u8 {
 pub fn run(calls: &[i64], numbers: &mut [u8], figures: &mut [i64]) {
     // SAFETY: the function takes slices of every length, each as a pointer and a length; it reads the one and writes the others within their lengths.
     unsafe { level_run(calls.as_ptr(), calls.len(), numbers.as_mut_ptr(), numbers.len(), figures.as_mut_ptr(), figures.len()) }
+}
+
+/// The length that `reduce` gives where none was written.
+pub const UNWRITTEN: usize = usize::MAX;
+
+/// The report of a text book into the beginning of the buffer: the number of its refusal, 0 where it is taken, and the report's length.
+pub fn reduce(text: &[u8], buffer: &mut [u8]) -> (u8, usize) {
+    let mut length = UNWRITTEN;
+    // SAFETY: the function takes slices of every length, each as a pointer and a length; it reads the one and writes the other within their lengths.
+    let number = unsafe { level_reduce(text.as_ptr(), text.len(), buffer.as_mut_ptr(), buffer.len(), &mut length) };
+    (number, length)
 }

@@ -1,8 +1,7 @@
 //! Another implementation of the levelling book, written from document 01 alone, and safe names for the proved functions, so that tests compare the two.
 //!
-//! The other implementation: `fraction`, `station`, `rules`, `plain`, `standing`, `adjust`. Inputs for comparisons: `random`, `lent`, `examples`, and for
-//! lists of calls `shoot`, `party`, `aim`, `trouble`, `work`, `generate`, `mutate`. The text book and the report, ahead of the proved ones: `text`, `write`, `report`,
-//! `damage`.
+//! The other implementation: `fraction`, `station`, `rules`, `plain`, `standing`, `adjust`, and for texts `text`, `write`, `report`. Inputs for comparisons:
+//! `random`, `lent`, `examples`, for lists of calls `shoot`, `party`, `aim`, `trouble`, `work`, `generate`, `mutate`, and for texts `damage`.
 
 pub mod adjust;
 pub mod aim;
