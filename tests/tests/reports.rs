@@ -4,7 +4,6 @@ use std::sync::LazyLock;
 
 use level_tests::damage::{damage, rubbish, text_book};
 use level_tests::examples::{book, examples};
-use level_tests::exports::{self, UNWRITTEN};
 use level_tests::generate::{line, Kind};
 use level_tests::mutate::any_call;
 use level_tests::plain::Call;
@@ -12,6 +11,7 @@ use level_tests::random::Random;
 use level_tests::report::{reduce_into, SHORTEST_BUFFER};
 use level_tests::text::{number, LINE, LONGEST_TEXT};
 use level_tests::write::{filled, heading, line_of, text_of};
+use levelbook::raw::level_reduce;
 
 /// Bytes that no report has.
 static DIRT: LazyLock<Vec<u8>> = LazyLock::new(|| (0..1 << 20).map(|k| 128 + (k % 127) as u8).collect());
@@ -20,10 +20,21 @@ fn words(bytes: &[u8]) -> String {
     String::from_utf8_lossy(bytes).into_owned()
 }
 
+/// A length that no call writes.
+const UNWRITTEN: usize = usize::MAX;
+
+/// The proved call: the number of its refusal, 0 where it is taken, and the length that it leaves.
+fn proved(text: &[u8], buffer: &mut [u8]) -> (u8, usize) {
+    let mut length = UNWRITTEN;
+    // SAFETY: as in `levelbook::reduce_into`, which does not show what is left of the length by a refusal.
+    let number = unsafe { level_reduce(text.as_ptr(), text.len(), buffer.as_mut_ptr(), buffer.len(), &mut length) };
+    (number, length)
+}
+
 /// Both calls on the same text over the same dirty buffer: the report, or the number of the refusal.
 fn compare_in(text: &[u8], places: usize) -> Result<Vec<u8>, u8> {
     let (mut given, mut expected) = (DIRT[..places].to_vec(), DIRT[..places].to_vec());
-    let answer = exports::reduce(text, &mut given);
+    let answer = proved(text, &mut given);
     let wanted = reduce_into(text, &mut expected);
     if answer != wanted.map_or_else(|number| (number, UNWRITTEN), |length| (0, length)) || given != expected {
         let place = given.iter().zip(&expected).position(|(one, other)| one != other);
