@@ -5,3 +5,4 @@ pub mod Calls
 pub mod Figures
 pub mod Widths
 pub mod States
+pub mod ReaderWalks
