@@ -22,7 +22,7 @@ use prog.Wp.{Heap, Env, afterSeq, afterBlock, afterTurn, Calls, Loops, Wp, atRet
 use ghost.Atoms.{Atoms, sem}
 use contract.Monad.{Fun}
 use contract.Running.{givenOf, tables, tablesOf}
-use types.Kit.{Given, Item, ‵, raw, _⊛_, ⋆, runs, anyQ, atRet, Sq, _$_, _∵_, !, qed, by, move, keep, drop, use1, use2, split, join, rewrite, fsplit, fjoin, suffices, frame, done}
+use types.Kit.{Given, Item, ‵, raw, mean, _⊛_, ⋆, runs, anyQ, atRet, Sq, _$_, _∵_, !, qed, by, move, keep, drop, use1, use2, split, join, rewrite, fsplit, fjoin, suffices, frame, done}
 use types.Part.{whole, sub, look-in}
 use types.Run.{look, store, init, forget, stop, fld, from, load, of-opd, bin, and-then, no-more, assigns, land, land-last, first, blocks, returns, enter}
 use types.Run.{alloc1, alloc0, params1, pass1, pass0, free1, free0, exec, Below, again, loops}
@@ -211,11 +211,12 @@ module _ {M : Type 1} (𝓤 : URA M) (H : Heap 𝓤) (A : Atoms 𝓤) (W : Given
   goes-count : ent 𝓤 (sem 𝓤 H A (usize .own (length ys) (vint w64 (length ys) ∷ []))) (Count 𝓤 H A mem run .pre to-count)
   goes-count = qed W (‵ (usize .own (length ys) (vint w64 (length ys) ∷ [])) ∷ []) ∵ nothing ! $ move ! (1 ∷ 0 ∷ []) $ join ! $ nothing ! $ join ! $ frame ! $ done !
 
+  -- what a callee asks that is passed one value over the text's lifetime
+  goes-one : (F : Fml) → ent 𝓤 (⋆ 𝓤 H A (‵ F ∷ Tok ∷ [])) (sep 𝓤 (mean 𝓤 H A (Tok ⊛ ‵ (fsep F ftrue))) (emp 𝓤))
+  goes-one F = qed W (‵ F ∷ Tok ∷ []) ∵ nothing ! $ move ! (1 ∷ 0 ∷ []) $ fjoin ! $ move ! (1 ∷ 0 ∷ []) $ join ! $ frame ! $ done !
+
   abbrev to-start : Start 𝓤 H A mem run .Ghost
   to-start = (((κ, tt), (q, tt), tt, (text, tt), vals), tt)
-
-  goes-start : ent 𝓤 (sep 𝓤 (sem 𝓤 H A Own) (sep 𝓤 (A .lft κ q) (sem 𝓤 H A ftrue))) (Start 𝓤 H A mem run .pre to-start)
-  goes-start = qed W (‵ Own ∷ Tok ∷ []) ∵ nothing ! $ move ! (1 ∷ 0 ∷ []) $ fjoin ! $ move ! (1 ∷ 0 ∷ []) $ join ! $ frame ! $ done !
 
   abbrev to-fresh : Fresh 𝓤 H A mem run .Ghost
   to-fresh = ((tt, tt, tt, tt, tt), tt)
@@ -225,9 +226,6 @@ module _ {M : Type 1} (𝓤 : URA M) (H : Heap 𝓤) (A : Atoms 𝓤) (W : Given
 
   abbrev to-current : ℕ → Current 𝓤 H A mem run .Ghost
   to-current k = (((κ, tt), (q, tt), tt, (rd k, tt), (rv k ∷ [], tt)), tt)
-
-  goes-current : (k : ℕ) → ent 𝓤 (sep 𝓤 (sem 𝓤 H A (Own-r k)) (sep 𝓤 (A .lft κ q) (sem 𝓤 H A ftrue))) (Current 𝓤 H A mem run .pre (to-current k))
-  goes-current k = qed W (‵ (Own-r k) ∷ Tok ∷ []) ∵ nothing ! $ move ! (1 ∷ 0 ∷ []) $ fjoin ! $ move ! (1 ∷ 0 ∷ []) $ join ! $ frame ! $ done !
 
   abbrev to-take : RefT (List ℕ) → Val → ℕ → Take 𝓤 H A mem run .Ghost
   to-take l w k = (((κ, tt), (q, tt), tt, (st k, (l, (k + 1, tt))), (sv (st k) ∷ [], (w ∷ [], (vint w64 (k + 1) ∷ [], tt)))), tt)
@@ -241,9 +239,6 @@ module _ {M : Type 1} (𝓤 : URA M) (H : Heap 𝓤) (A : Atoms 𝓤) (W : Given
 
   abbrev to-next : ℕ → Next 𝓤 H A mem run .Ghost
   to-next k = (((κ, tt), (q, tt), tt, (rd k, tt), (rv k ∷ [], tt)), tt)
-
-  goes-next : (k : ℕ) → ent 𝓤 (sep 𝓤 (sem 𝓤 H A (Own-r k)) (sep 𝓤 (A .lft κ q) (sem 𝓤 H A ftrue))) (Next 𝓤 H A mem run .pre (to-next k))
-  goes-next k = qed W (‵ (Own-r k) ∷ Tok ∷ []) ∵ nothing ! $ move ! (1 ∷ 0 ∷ []) $ fjoin ! $ move ! (1 ∷ 0 ∷ []) $ join ! $ frame ! $ done !
 
   exits : (w : Val) → ent 𝓤 (⋆ 𝓤 H A (‵ (S .own (st n) (w ∷ [])) ∷ Tok ∷ ‵ Own ∷ [])) (Post w)
   exits w =
@@ -310,7 +305,7 @@ module _ {M : Type 1} (𝓤 : URA M) (H : Heap 𝓤) (A : Atoms 𝓤) (W : Given
         -- `current`, on a copy of the reader
         assigns ! (of-opd ! (local-at 20 refl)) (from ! (stop !)) (init ! 8 refl (typed-r (rd k) _ is)) $
         use1 W (‵ (Own-r k) ⊛ ‵ (Own-r k)) (LL.copy (T.the-type α) (T′.the-copy α) 𝓤 H A W .twice (rd k) (rv k ∷ [])) $ split ! $
-        move ! (0 ∷ 3 ∷ []) $ use2 W (raw (Current 𝓤 H A mem run .pre (to-current k))) (goes-current k) $
+        move ! (0 ∷ 3 ∷ []) $ use2 W (raw (Current 𝓤 H A mem run .pre (to-current k))) (goes-one (Own-r k)) $
         calls-for (fmOf 𝓤 H (W .laws) 𝓣) (Current 𝓤 H A mem run) (known .3) (to-current k) (and-then ! (local-at 8 refl) (no-more !))
         Tok Line (ensured 𝓤 H A current.ended (current.clauses 𝓤 H A mem run) (κ, tt) (rd k, tt) tt) (λ l. now l ≡ lineAt ys (k + 1)) (λ w. id⊢ 𝓤 _)
         (λ l. states 𝓤 H A current.ended (κ, tt) (rd k, tt) (now l ≡ lineAt ys (k + 1))) (λ w₁ l e₁ is₁.
@@ -330,7 +325,7 @@ module _ {M : Type 1} (𝓤 : URA M) (H : Heap 𝓤) (A : Atoms 𝓤) (W : Given
         rewrite ! 0 (λ (x : State × Val). ‵ (S .own (x .0) (x .1 ∷ []))) (state-is s (st (k + 1)) w₂ (one-more l s e₁ e₂) is₂) refl $
         -- `next`, on a copy of the reader
         assigns ! (of-opd ! (local-at 20 refl)) (from ! (stop !)) (init ! 4 refl (typed-r (rd k) _ is)) $
-        move ! (2 ∷ 1 ∷ []) $ use2 W (raw (Next 𝓤 H A mem run .pre (to-next k))) (goes-next k) $
+        move ! (2 ∷ 1 ∷ []) $ use2 W (raw (Next 𝓤 H A mem run .pre (to-next k))) (goes-one (Own-r k)) $
         calls-for-last (fmOf 𝓤 H (W .laws) 𝓣) (Next 𝓤 H A mem run) (known .5) (to-next k) (and-then ! (local-at 3 refl) (no-more !))
         Tok R (ensured 𝓤 H A next.ended (next.clauses 𝓤 H A mem run) (κ, tt) (rd k, tt) tt) (λ r. (r .text ≡ text) × (r .line ≡ numberAfter (k + 1))) (λ w. id⊢ 𝓤 _)
         (λ r. states 𝓤 H A next.ended (κ, tt) (rd k, tt) ((r .text ≡ text) × (r .line ≡ numberAfter (k + 1)))) (λ w₃ r e₃ is₃.
@@ -379,7 +374,7 @@ module _ {M : Type 1} (𝓤 : URA M) (H : Heap 𝓤) (A : Atoms 𝓤) (W : Given
     starts : Sq W (Tok ∷ ‵ Own ∷ Locals counted (froom reader l₃ 0) (froom state l₄ 0) size) (runs C Λ En code.Mir.t-3 (atRet En Post))
     starts =
         move ! (1 ∷ []) $ use1 W (‵ Own ⊛ ‵ Own) (shr-slice-copy 𝓤 H A W (named 0) κ u8 .twice text (tv ∷ [])) $ split ! $ move ! (0 ∷ 2 ∷ []) $
-        use2 W (raw (Start 𝓤 H A mem run .pre to-start)) goes-start $
+        use2 W (raw (Start 𝓤 H A mem run .pre to-start)) (goes-one Own) $
         calls-for (fmOf 𝓤 H (W .laws) 𝓣) (Start 𝓤 H A mem run) (known .1) to-start (and-then ! (local-at 22 refl) (no-more !))
         Tok R (ensured 𝓤 H A start.ended (start.clauses 𝓤 H A mem run) (κ, tt) (text, tt) tt) (At-line 0) (λ w. id⊢ 𝓤 _)
         (λ r. states 𝓤 H A start.ended (κ, tt) (text, tt) (At-line 0 r)) (λ w r e is.
