@@ -1,13 +1,12 @@
-//! Another implementation of the levelling book, written from document 01 alone, and safe names for the proved functions, so that tests compare the two.
+//! Another implementation of the levelling book, written from document 01 alone; the tests compare the proved one with it.
 //!
-//! The other implementation: `fraction`, `station`, `rules`, `plain`, `standing`, `adjust`. Inputs for comparisons: `random`, `lent`, and for lists of
-//! calls `shoot`, `party`, `aim`, `trouble`, `work`, `generate`, `mutate`. The text book and the report, ahead of the proved ones: `text`, `write`, `report`,
-//! `damage`.
+//! The other implementation: `fraction`, `station`, `rules`, `plain`, `standing`, `adjust`, and for texts `text`, `write`, `report`. Inputs for comparisons:
+//! `random`, `lent`, `examples`, for lists of calls `shoot`, `party`, `aim`, `trouble`, `work`, `generate`, `mutate`, and for texts `damage`.
 
 pub mod adjust;
 pub mod aim;
 pub mod damage;
-pub mod exports;
+pub mod examples;
 pub mod fraction;
 pub mod generate;
 pub mod lent;

@@ -26,6 +26,20 @@ pub fn reduce(text: &[u8]) -> Result<Vec<u8>, u8> {
     Ok(report(&refusals, reading.sections.len(), closing.as_ref()))
 }
 
+/// A shorter buffer is refused with 10.
+pub const SHORTEST_BUFFER: usize = 65_536;
+
+/// The call over a lent buffer: the report into its beginning, and the report's
+/// length. After refusal 9 or 10 the buffer is untouched.
+pub fn reduce_into(text: &[u8], buffer: &mut [u8]) -> Result<usize, u8> {
+    let report = reduce(text)?;
+    if buffer.len() < SHORTEST_BUFFER {
+        return Err(10);
+    }
+    buffer[..report.len()].copy_from_slice(&report);
+    Ok(report.len())
+}
+
 /// What the program prints: the report, or for 9 the single line REF 0 9.
 pub fn printed(text: &[u8]) -> Vec<u8> {
     match reduce(text) {

@@ -2,9 +2,9 @@
 use std::collections::BTreeMap;
 
 use level_tests::adjust::{adjust, corrections, exact_height, keeps_promises};
-use level_tests::exports::{self, Leg};
 use level_tests::lent::{any, sound, Lent};
 use level_tests::random::Random;
+use levelbook::{Leg, Refusal};
 
 /// A section as both take it: Q and R.
 type Section = (i64, i64);
@@ -19,7 +19,8 @@ fn compare(start: i64, end: i64, sections: &[Section], places: usize) -> (u8, Ve
     let (mut expected, mut given) = (list_of(places), list_of(places));
     let number = adjust(start, end, sections, &mut expected).err().unwrap_or(0);
     let legs: Vec<Leg> = sections.iter().map(|&(height, distance)| Leg { height, distance }).collect();
-    assert_eq!(exports::adjust(start, end, &legs, &mut given), number, "{start} {end} {sections:?} {places}");
+    let answer = levelbook::adjust(start, end, &legs, &mut given).map_or_else(Refusal::number, |()| 0);
+    assert_eq!(answer, number, "{start} {end} {sections:?} {places}");
     assert_eq!(given, expected, "{start} {end} {sections:?}");
     if number != 0 {
         assert_eq!(given, list_of(places), "{start} {end} {sections:?}: refusal {number} touched the list");

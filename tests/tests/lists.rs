@@ -1,7 +1,6 @@
 //! Lists of calls run by the proved book, compared with the other implementation's plain reading of them.
 use std::collections::BTreeMap;
 
-use level_tests::exports;
 use level_tests::fraction::narrow;
 use level_tests::generate::book;
 use level_tests::mutate::any_call;
@@ -89,7 +88,7 @@ fn compare(random: &mut Random, calls: &[Call], counts: &mut BTreeMap<u8, u64>) 
     let answers = vec![99u8; places];
     let room = vec![-7i64; *random.pick(&[FIGURES, FIGURES, FIGURES + 5, 10, 13])];
     let (mut given, mut figures) = (answers.clone(), room.clone());
-    exports::run(&list, &mut given, &mut figures);
+    levelbook::run(&list, &mut given, &mut figures);
     assert_eq!(given, over(&expected, &answers), "{calls:?}");
     assert_eq!(figures, over(&figures_of(&reading, &closed), &room), "{calls:?}");
 }
@@ -133,7 +132,7 @@ fn lists_of_any_calls() {
 fn no_calls() {
     for length in 0..11 {
         let mut figures = [5; FIGURES];
-        exports::run(&vec![1; length], &mut [], &mut figures);
+        levelbook::run(&vec![1; length], &mut [], &mut figures);
         assert_eq!(figures, [0; FIGURES]);
     }
 }

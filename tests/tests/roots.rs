@@ -1,7 +1,7 @@
 //! The root decision a * x * x <= b * l, compared with i128 arithmetic for the coefficients that documents 01 and 02 name.
-use level_tests::exports::root_within;
 use level_tests::fraction::within;
 use level_tests::random::Random;
+use levelbook::root_within;
 
 /// Each pair as it stands, and with its right side times 100.
 fn coefficients() -> Vec<(u16, u16)> {

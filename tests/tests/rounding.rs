@@ -1,7 +1,7 @@
 //! Rounding to even, compared with i128 arithmetic; and that its source has no branch.
-use level_tests::exports::round_half_even;
 use level_tests::fraction::round_even;
 use level_tests::random::Random;
+use levelbook::round_half_even;
 
 const LARGEST: i64 = 4_000_000_000_000_000_000;
 

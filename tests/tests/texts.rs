@@ -1,12 +1,11 @@
-//! The other implementation on texts, by itself until the proved report can be compared with it: fields, shapes, case A, and texts damaged in every way.
+//! The other implementation's reading of lines and writing of points, by itself; the whole reports are compared in reports.rs.
 
-use level_tests::damage::{damage, rubbish, text_book};
 use level_tests::generate::short_book;
 use level_tests::plain::{Answer, Call, Closing, Point, Reading};
 use level_tests::random::Random;
-use level_tests::report::{printed, reduce, report};
-use level_tests::text::{number, parse, parse_line, LINE, LONGEST_TEXT};
-use level_tests::write::{filled, heading, line, line_of, text_of};
+use level_tests::report::{reduce, report};
+use level_tests::text::{number, parse, parse_line, LONGEST_TEXT};
+use level_tests::write::{filled, line, line_of, text_of};
 
 #[test]
 fn numbers_as_written() {
@@ -125,51 +124,7 @@ fn a_text_gives_the_calls_it_was_made_from() {
     }
 }
 
-/// Whole lines of 83 columns, known tags, one end.
-fn has_the_form_of_a_report(report: &[u8]) -> bool {
-    let tags: Vec<&[u8]> = report.chunks(LINE).map(|one| &one[..3]).collect();
-    let shaped = report.chunks(LINE).all(|one| one.len() == LINE && one[83] == b'\n');
-    let ends = tags.iter().filter(|&&tag| tag == b"CLO" || tag == b"OPN").count();
-    shaped && tags[0] == b"RED" && ends == 1
-}
-
-#[test]
-fn damaged_texts_are_read_without_a_panic() {
-    let mut random = Random::new(22);
-    let mut too_long = 0;
-    for _ in 0..4_000 {
-        let mut text = text_book(&mut random);
-        for _ in 0..random.below(20) {
-            damage(&mut random, &mut text);
-        }
-        match reduce(&text) {
-            Err(refusal) => {
-                assert_eq!((refusal, text.len() > LONGEST_TEXT), (9, true));
-                assert_eq!(printed(&text), line("REF", &[0, 9]).unwrap());
-                too_long += 1;
-            }
-            Ok(report) => {
-                assert!(has_the_form_of_a_report(&report));
-                assert!(report.len() <= 65_536);
-            }
-        }
-    }
-    println!("{too_long} texts too long");
-}
-
-#[test]
-fn rubbish_is_one_refusal() {
-    let mut random = Random::new(23);
-    for _ in 0..200 {
-        let mut text = rubbish(&mut random, 2_000);
-        let report = reduce(&text).unwrap();
-        assert_eq!(report.len(), 3 * LINE);
-        let mut headed = heading();
-        headed.append(&mut text);
-        assert!(has_the_form_of_a_report(&reduce(&headed).unwrap()));
-    }
-}
-
+/// No text book is long enough to lead there.
 #[test]
 fn a_low_height_takes_sixteen_columns() {
     let point = |height| Point { number: 12, distance: 340, correction: -5, height };
@@ -186,67 +141,4 @@ fn a_low_height_takes_sixteen_columns() {
     ];
     let expected: Vec<u8> = expected.iter().flat_map(|one| filled(one)).collect();
     assert_eq!(report(&[(7, 36)], 3, Some(&closing)), expected);
-}
-
-const CASE_A: [(&str, &[i64]); 8] = [
-    ("LIN", &[4, 3, 1, 10000]),
-    ("STA", &[4787, 1571, 1197, 1384, 6171, 4687, 739, 363, 551, 5239]),
-    ("STA", &[4687, 1965, 1700, 1832, 6519, 4787, 2141, 1874, 2007, 6793]),
-    ("RUN", &[2]),
-    ("STA", &[4787, 1300, 1100, 1200, 5987, 4687, 1000, 800, 900, 5587]),
-    ("STA", &[4687, 1500, 1300, 1400, 6087, 4787, 1250, 1050, 1150, 5937]),
-    ("RUN", &[3]),
-    ("END", &[3, 11206]),
-];
-
-fn lines_of(lines: &[(&str, &[i64])]) -> Vec<u8> {
-    let mut text = heading();
-    for (tag, numbers) in lines {
-        text.extend(line(tag, numbers).unwrap());
-    }
-    text
-}
-
-/// The report's lines, each filled with blanks to 83 columns.
-fn pages(lines: &[&str]) -> Vec<u8> {
-    lines.iter().flat_map(|one| filled(one)).collect()
-}
-
-#[test]
-fn case_a_is_printed_as_given() {
-    let expected = pages(&[
-        "REDUCED LEVELS",
-        "CLO       8    4164       2       0       0",
-        "PNT       1       0       0   10000",
-        "PNT       2    2564      -4   10657",
-        "PNT       3    4164      -4   11206",
-    ]);
-    assert_eq!(expected.len(), 5 * 84);
-    assert_eq!(reduce(&lines_of(&CASE_A)), Ok(expected.clone()));
-    assert_eq!(printed(&lines_of(&CASE_A)), expected);
-}
-
-#[test]
-fn a_text_without_its_heading_has_one_refusal() {
-    let expected = pages(&["REDUCED LEVELS", "REF       1       1", "OPN       0"]);
-    let whole = lines_of(&CASE_A);
-    assert_eq!(reduce(b""), Ok(expected.clone()));
-    assert_eq!(reduce(&whole[..83]), Ok(expected.clone()));
-    assert_eq!(reduce(&whole[84..]), Ok(expected.clone()));
-    assert_eq!(reduce(&vec![b'x'; LONGEST_TEXT]), Ok(expected));
-    assert_eq!(reduce(&vec![b' '; LONGEST_TEXT + 1]), Err(9));
-    let alone = pages(&["REF       0       9"]);
-    assert_eq!(printed(&vec![b' '; LONGEST_TEXT + 1]), alone);
-}
-
-#[test]
-fn a_heading_alone_and_a_short_piece() {
-    assert_eq!(reduce(&heading()), Ok(pages(&["REDUCED LEVELS", "OPN       0"])));
-    let mut text = heading();
-    text.push(b'D');
-    let expected = pages(&["REDUCED LEVELS", "REF       2       1", "OPN       0"]);
-    assert_eq!(reduce(&text), Ok(expected));
-    let cut = &lines_of(&CASE_A)[..84 * 9 - 1];
-    let expected = pages(&["REDUCED LEVELS", "REF       9       1", "OPN       2"]);
-    assert_eq!(reduce(cut), Ok(expected));
 }

@@ -1,5 +1,4 @@
 //! Worked lists of calls, run by the proved book: case A, the practice stations of source document 001 (section 5.4.1), and the rules at their limits.
-use level_tests::exports;
 
 type Call = Vec<i64>;
 
@@ -51,7 +50,7 @@ fn times(n: usize, calls: &[Call]) -> Vec<Call> {
 fn run(calls: &[Call]) -> (Vec<u8>, Vec<i64>) {
     let list: Vec<i64> = calls.iter().flat_map(|call| (0..11).map(|k| call.get(k).copied().unwrap_or(0))).collect();
     let (mut numbers, mut figures) = (vec![99; calls.len()], vec![-1; 270]);
-    exports::run(&list, &mut numbers, &mut figures);
+    levelbook::run(&list, &mut numbers, &mut figures);
     (numbers, figures)
 }
 

@@ -33,7 +33,7 @@ unfolding joined
 joined-short [] s = omega arith
 joined-short (l ∷ ls) s = omega (arith, length-append l (joined ls), s .0, joined-short ls (s .1))
 
-tag-short : (tag : List ℕ) (zs : List ℤ) (wide : Bool) → length (tagLine tag zs wide) ≤ 84
+pub tag-short : (tag : List ℕ) (zs : List ℤ) (wide : Bool) → length (tagLine tag zs wide) ≤ 84
 unfolding tagLine
 tag-short tag zs wide = go (lineFits (length tag) zs wide) refl
   where
@@ -93,7 +93,7 @@ report-few refusals r = omega (arith, length-append (map refLine refusals) (resu
 
 -- ---- the lines of a text
 
-text-lines : (f : ℕ) (t : List ℕ) → 84 * length (linesBy f t) ≤ length t + 83
+pub text-lines : (f : ℕ) (t : List ℕ) → 84 * length (linesBy f t) ≤ length t + 83
 unfolding linesBy
 text-lines zero t = omega arith
 text-lines (suc f) [] = omega arith

@@ -6,3 +6,6 @@ pub mod Figures
 pub mod Widths
 pub mod States
 pub mod ReaderWalks
+pub mod Lines
+pub mod Written
+pub mod Reports

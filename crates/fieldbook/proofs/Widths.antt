@@ -43,7 +43,7 @@ use Rattle.fieldbook.proofs.Figures.{narrow-head, sum-small, verdict-sm
 abbrev Small : ℤ → Type 0
 Small z = natAbs z ≤ 9999999
 
-small-fits : (z : ℤ) → Small z → fitsIn 8 z ≡ true
+pub small-fits : (z : ℤ) → Small z → fitsIn 8 z ≡ true
 small-fits z h = fits-within 7 z (omega arith) (omega (arith, parts-abs z)) (omega (arith, parts-abs z))
 
 closed-fits : (s : Summary) → Small (s .closure) → Small (s .distance) → s .count ≤ 64 → Small (s .accidental) → s .verdict ≤ 2 → closedFits s ≡ true

@@ -1,12 +1,15 @@
 -- What is claimed of every text: the claim about every list of calls, of what the report prints.
 use mathlib.Core.Path.{_≡_}
-use mathlib.Core.List.{List}
+use mathlib.Core.List.{List, _∷_, _++_, map}
 use Prim.Native.Nat.{ℕ}
 use Rattle.book.specs.declared.Stage.the-variants.{Closed}
 use Rattle.ledger.specs.Plain.{freshReading, closings}
 use Rattle.ledger.specs.Claims.{ClosedOnce}
-use Rattle.fieldbook.specs.Text.{readingAfter, callsOf}
-use Rattle.fieldbook.specs.Report.{closingLines, resultLines}
+use Rattle.columns.specs.Buffers.{putAt}
+use Rattle.columns.specs.Lines.{heading, title}
+use Rattle.columns.specs.Texts.{lines, joined}
+use Rattle.fieldbook.specs.Text.{lineNumbers, readingAfter, callsOf, refusalsFrom}
+use Rattle.fieldbook.specs.Report.{refLine, closingLines, resultLines, textRefusal, bufferAfter}
 
 -- the lines' calls closed the line once and soundly, and that closing is what is printed
 pub record Printed (ls : List (List ℕ)) : Type 0 where
@@ -16,3 +19,17 @@ pub record Printed (ls : List (List ℕ)) : Type 0 where
 -- whatever the lines after the first, refused ones among them
 abbrev pub EveryText : Type 0
 EveryText = (ls : List (List ℕ)) → readingAfter freshReading ls .stage ≡ Closed → Printed ls
+
+-- ---- the bytes of the buffer
+
+-- the call wrote a report of a line that its text closed once and soundly, and of nothing else
+pub record Reported (text buffer : List ℕ) (ls : List (List ℕ)) : Type 0 where
+  pub closing : ClosedOnce (callsOf ls) (closings freshReading (callsOf ls))
+  pub bytes : bufferAfter text buffer
+      ≡ putAt buffer 0 (joined (title ∷ (map refLine (refusalsFrom 2 (lineNumbers freshReading ls)) ++ closingLines (closing .gave))))
+
+-- whatever the text and the buffer, if the call is taken and the lines after the heading leave the line closed
+abbrev pub EveryReport : Type 0
+EveryReport =
+    (text buffer : List ℕ) → textRefusal text buffer ≡ 0 → (ls : List (List ℕ)) → lines text ≡ heading ∷ ls
+    → readingAfter freshReading ls .stage ≡ Closed → Reported text buffer ls

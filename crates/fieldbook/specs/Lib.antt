@@ -2,4 +2,5 @@ pub mod Text
 pub mod State
 pub mod Report
 pub mod Fits
+pub mod Printed
 pub mod Claims

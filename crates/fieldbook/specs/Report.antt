@@ -3,7 +3,7 @@ use mathlib.Core.Bool.{Bool, false, cond}
 use mathlib.Core.List.{List, [], _∷_, _++_, map}
 use Prim.Native.Nat.{ℕ}
 use lib.ListN.{length}
-use lib.Dec.{ltb}
+use lib.Dec.{eqb, ltb}
 use lib.IntN.{ℤ, pos}
 use Rattle.numbers.specs.Tables.{firstOf}
 use Rattle.adjust.specs.declared.Point.{Point}
@@ -15,6 +15,8 @@ use Rattle.columns.specs.Lines.{tagLine, isWide, heading, title}
 use Rattle.columns.specs.Texts.{lines, joined}
 use Rattle.book.specs.Standing.{isClosed}
 use Rattle.ledger.specs.Plain.{Reading, freshReading, figuresOf}
+use Rattle.fieldbook.specs.declared.Reduced.{Reduced}
+use Rattle.fieldbook.specs.declared.Reduced.the-variants.{Written, Refused}
 use Rattle.fieldbook.specs.Text.{Refusal, lineNumbers, refusalsFrom, readingAfter}
 
 -- ---- its lines
@@ -75,6 +77,23 @@ textTests text buffer = (9, ltb 65268 (length text)) ∷ (10, ltb (length buffer
 unfoldable pub textRefusal : List ℕ → List ℕ → ℕ
 textRefusal text buffer = firstOf (textTests text buffer)
 
--- the buffer after the call: the report at its beginning, or as it was
+-- the buffer after the call: the report at its beginning, or as it was where the call is refused
 unfoldable pub bufferAfter : List ℕ → List ℕ → List ℕ
 bufferAfter text buffer = cond (ltb 0 (textRefusal text buffer)) buffer (putAt buffer 0 (report text))
+
+-- document 01's number of an answer
+abbrev pub reducedNumber : Reduced → ℕ
+reducedNumber (Written n) = 0
+reducedNumber (Refused n) = n
+
+-- the length of what was written, `old` where nothing was
+abbrev pub reducedLength : Reduced → ℕ → ℕ
+reducedLength (Written n) old = n
+reducedLength (Refused n) old = old
+
+-- the answer with a number: the length where it is 0
+abbrev pub reducedAs : ℕ → ℕ → Reduced
+reducedAs n long = cond (eqb n 0) (Written long) (Refused n)
+
+unfoldable pub reducedOf : List ℕ → List ℕ → Reduced
+reducedOf text buffer = reducedAs (textRefusal text buffer) (length (report text))

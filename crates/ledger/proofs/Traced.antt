@@ -65,8 +65,8 @@ points-length f q s h (x ∷ xs) = ap suc (points-length f _ _ _ xs)
 
 module _ (start end : ℤ) (number : ℤ) (ss : List Section) where
   -- the points, read back from an array with room for 64 sections
-  back : length ss ≤ 64 → take (length ss + 1) (filled noPoint 65 (points (frameOf start end ss) number ss)) ≡ points (frameOf start end ss) number ss
-  back h =
+  pub points-back : length ss ≤ 64 → take (length ss + 1) (filled noPoint 65 (points (frameOf start end ss) number ss)) ≡ points (frameOf start end ss) number ss
+  points-back h =
       let f = frameOf start end ss in
       let ps = points f number ss in
       let n : length ps ≡ length ss + 1 = omega (arith, points-length f (pos 0) (pos 0) (f .prints *ℤ f .start) ss) in
@@ -85,7 +85,7 @@ gives b number end h = go (bookRefusal (standingOf b) (close-line number end)) (
 
     go : (n : ℕ) (t : Bool)
         → map (f (filled noPoint 65 (cond t (gave .points) []))) (closeValues (cond t (Closed (gave .summary)) (NotClosed n))) ≡ cond t (gave ∷ []) []
-    go n true = λ i. record { summary = gave .summary; points = back (b .line .start .height) end (b .line .start .number) (sectionsOf (b .sections)) h i } ∷ []
+    go n true = λ i. record { summary = gave .summary; points = points-back (b .line .start .height) end (b .line .start .number) (sectionsOf (b .sections)) h i } ∷ []
     go n false = refl
 
 pub close-number : (n : ℕ) (s : Summary) → closeNumber (closeAnswerOf n s) ≡ n

@@ -1,0 +1,166 @@
+-- The report of the reader's state is the report of the text.
+use mathlib.Core.Path.{_≡_, refl, sym, ap, subst, _∙_}
+use mathlib.Core.Bool.{Bool, true, false, not, cond}
+use mathlib.Core.List.{List, [], _∷_, _++_, map}
+use Prim.Native.Nat.{ℕ, suc, _+_, _≤_, _<_}
+use native.Mathlib.Omega.{arith}
+use borrow.Author.Tests.{lt-ltb, le-ltb}
+use lib.Dec.{ltb}
+use lib.ListN.{length, take, length-map}
+use lib.IntN.{pos, _*ℤ_}
+use Rattle.numbers.specs.Whole.{filled, anyOf}
+use Rattle.numbers.proofs.Tests.{by-test, is-true}
+use Rattle.numbers.proofs.Filled.{filled-length}
+use Rattle.adjust.specs.declared.Point.{Point}
+use Rattle.adjust.specs.declared.Adjusted.{Adjusted}
+use Rattle.adjust.specs.Line.{Closing}
+use Rattle.adjust.specs.Frames.{noPoint, adjustedOf}
+use Rattle.columns.specs.Buffers.{putAt}
+use Rattle.columns.specs.Decimals.{same}
+use Rattle.columns.specs.Lines.{heading, title}
+use Rattle.columns.specs.Records.{lineIn}
+use Rattle.columns.specs.Texts.{lines, joined}
+use Rattle.book.specs.declared.Stage.{Stage}
+use Rattle.book.specs.declared.Stage.the-variants.{Fresh, Open, Closed}
+use Rattle.book.specs.Standing.{isClosed}
+use Rattle.book.specs.Calls.{figuresOf}
+use Rattle.book.specs.Rules.{Call}
+use Rattle.adjust.specs.Sections.{holding}
+use Rattle.ledger.specs.Plain as Plain
+use Rattle.ledger.specs.Plain.{Reading, freshReading, after, standing, sectionOf}
+use Rattle.ledger.proofs.Whole.{Kept, fresh-kept, calls-kept}
+use Rattle.ledger.proofs.Again.{bookOf, fresh-holds, figures-again}
+use Rattle.ledger.proofs.Traced.{points-back}
+use Rattle.fieldbook.specs.declared.reading.State.{State}
+use Rattle.fieldbook.specs.Text.{Refusal, lineNext, lineNumbers, readingAfter, refusalsFrom, callsOf}
+use Rattle.fieldbook.specs.Report.{refLine, openLine, closingLines, resultLines, reportOf, withoutHeading, reportLines, report, textRefusal, bufferAfter, reducedAs, reducedOf}
+use Rattle.fieldbook.specs.Fits.{closedFits, pointFits}
+use Rattle.fieldbook.specs.State.{lineCount, stateAfter}
+use Rattle.fieldbook.specs.Printed.{closingIn, bookLines, stateLines, ClosingFits, Printable}
+use Rattle.fieldbook.proofs.Bytes.{text-lines}
+use Rattle.fieldbook.proofs.Calls.{reading-calls}
+use Rattle.fieldbook.proofs.Widths.{figures-fit}
+use Rattle.fieldbook.proofs.Lines.{read, unread, stateOf, text-state, refusals-filled}
+
+-- ---- the book of a reading
+
+closed-stage : (s : Stage) → isClosed s ≡ true → s ≡ Closed
+closed-stage Fresh e = let z : _≡_ {A = ℕ} 0 1 = cc in absurd (omega arith)
+closed-stage Open e = let z : _≡_ {A = ℕ} 0 1 = cc in absurd (omega arith)
+closed-stage Closed e = refl
+
+module _ (r : Reading) (k : Kept (standing r)) where
+  -- the points, read back from their array
+  given-back : r .stage ≡ Closed → closingIn (figuresOf (bookOf r)) ≡ Plain.figuresOf r
+  given-back e =
+      ap closingIn (figures-again r k e)
+      ∙ (λ i. record { summary = Plain.figuresOf r .summary; points = points-back (r .start .height) (r .end) (r .start .number) (standing r .sections) (k .few) i })
+
+  sections-many : bookOf r .sections .count ≡ length (r .sections)
+  unfolding holding
+  sections-many = length-map (r .sections) sectionOf
+
+  book-lines : bookLines (bookOf r) ≡ resultLines r
+  book-lines =
+      by-test (isClosed (r .stage))
+      (λ t. cond t (closingLines (closingIn (figuresOf (bookOf r)))) (openLine (bookOf r .sections .count) ∷ [])
+      ≡ cond t (closingLines (Plain.figuresOf r)) (openLine (length (r .sections)) ∷ []))
+      (λ t. ap closingLines (given-back (closed-stage (r .stage) (is-true t)))) (λ t. ap (λ (n : ℕ). openLine n ∷ []) sections-many)
+
+-- of the book that a list of calls leaves
+calls-printable : (calls : List Call) → Printable (bookOf (after freshReading calls))
+calls-printable calls =
+    record {
+      few = omega (arith, sections-many r k, sections-kept);
+      closing = λ t. let e = closed-stage (r .stage) t in
+          record {
+            few = subst (λ (x : Adjusted). x .summary .count ≤ 64) (sym (figures-again r k e)) (k .few);
+            places = ap (λ (x : Adjusted). length (x .points)) (figures-again r k e) ∙ filled-length noPoint 65 (Plain.figuresOf r .points);
+            summary = ap (λ (x : Adjusted). closedFits (x .summary)) (figures-again r k e) ∙ figures-fit calls e .0;
+            points = ap (λ (c : Closing). anyOf (λ (p : Point). not (pointFits p)) (c .points)) (given-back r k e) ∙ figures-fit calls e .1;
+          };
+    }
+  where
+    r : Reading
+    r = after freshReading calls
+
+    k : Kept (standing r)
+    k = calls-kept calls
+
+    sections-kept : length (r .sections) ≤ 64
+    sections-kept = omega (arith, k .few, length-map (r .sections) sectionOf)
+
+-- ---- a text
+
+numbers-long : (r : Reading) (ls : List (List ℕ)) → length (lineNumbers r ls) ≡ length ls
+numbers-long r [] = refl
+numbers-long r (l ∷ ls) = ap suc (numbers-long (lineNext r (lineIn l)) ls)
+
+module _ (ls : List (List ℕ)) where
+  abbrev last : Reading
+  last = readingAfter freshReading ls
+
+  last-kept : Kept (standing last)
+  last-kept = subst (λ (r : Reading). Kept (standing r)) (sym (reading-calls freshReading ls)) (calls-kept (callsOf ls))
+
+  read-lines : length ls ≤ 776 → stateLines (read last (lineNumbers freshReading ls)) ≡ reportOf (refusalsFrom 2 (lineNumbers freshReading ls)) last
+  unfolding stateLines refusalsFrom
+  read-lines h =
+      λ i. title ∷ (map refLine (refusals-filled 2 776 (lineNumbers freshReading ls) (omega (arith, numbers-long freshReading ls)) i) ++ book-lines last last-kept i)
+
+  read-printable : Printable (bookOf last)
+  read-printable = subst (λ (r : Reading). Printable (bookOf r)) (sym (reading-calls freshReading ls)) (calls-printable (callsOf ls))
+
+fresh-printable : Printable (unread .book)
+fresh-printable = subst Printable (sym fresh-holds) (calls-printable [])
+
+unread-lines : stateLines unread ≡ withoutHeading
+unfolding stateLines refusalsFrom
+unread-lines =
+    (λ i. title ∷ (map refLine (record { line = 1; number = 1 } ∷ refusals-filled 2 776 [] (omega arith) i) ++ bookLines (fresh-holds i)))
+    ∙ ap (λ (ls : List (List ℕ)). title ∷ (refLine (record { line = 1; number = 1 }) ∷ ls)) (book-lines freshReading fresh-kept)
+
+state-lines : (ls : List (List ℕ)) → length ls ≤ 777 → stateLines (stateOf ls) ≡ reportLines ls
+state-lines [] h = unread-lines
+state-lines (l ∷ ls) h =
+    by-test (same l heading)
+    (λ b. stateLines (cond b (read (last ls) (lineNumbers freshReading ls)) unread) ≡ cond b (reportOf (refusalsFrom 2 (lineNumbers freshReading ls)) (last ls)) withoutHeading)
+    (λ b. read-lines ls (omega arith)) (λ b. unread-lines)
+
+state-printable : (ls : List (List ℕ)) → Printable (stateOf ls .book)
+state-printable [] = fresh-printable
+state-printable (l ∷ ls) =
+    by-test (same l heading) (λ b. Printable (cond b (read (last ls) (lineNumbers freshReading ls)) unread .book)) (λ b. read-printable ls) (λ b. fresh-printable)
+
+module _ (t : List ℕ) (h : length t ≤ 65268) where
+  few-lines : length (lines t) ≤ 777
+  unfolding lines
+  few-lines = omega (arith, text-lines (length t) t)
+
+  -- what is read of a text is its report
+  pub report-read : joined (stateLines (stateAfter t (lineCount (length t)))) ≡ report t
+  unfolding report
+  report-read = ap (λ (s : State). joined (stateLines s)) (text-state t few-lines) ∙ ap joined (state-lines (lines t) few-lines)
+
+  pub read-fits : Printable (stateAfter t (lineCount (length t)) .book)
+  read-fits = subst (λ (s : State). Printable (s .book)) (sym (text-state t few-lines)) (state-printable (lines t))
+
+-- ---- the call
+
+module _ (t d : List ℕ) where
+  -- what is answered and left of the buffer with the number n
+  pub answered : (n : ℕ) → textRefusal t d ≡ n → (reducedOf t d ≡ reducedAs n (length (report t))) × (bufferAfter t d ≡ cond (ltb 0 n) d (putAt d 0 (report t)))
+  unfolding reducedOf bufferAfter
+  answered n e = (ap (λ (k : ℕ). reducedAs k (length (report t))) e, ap (λ (k : ℕ). cond (ltb 0 k) d (putAt d 0 (report t))) e)
+
+  pub too-long : 65268 < length t → textRefusal t d ≡ 9
+  unfolding textRefusal
+  too-long h = rw (lt-ltb 65268 (length t) h)
+
+  pub too-small : length t ≤ 65268 → length d < 65536 → textRefusal t d ≡ 10
+  unfolding textRefusal
+  too-small h g = rw (le-ltb 65268 (length t) h, lt-ltb (length d) 65536 g)
+
+  pub not-refused : length t ≤ 65268 → 65536 ≤ length d → textRefusal t d ≡ 0
+  unfolding textRefusal
+  not-refused h g = rw (le-ltb 65268 (length t) h, le-ltb (length d) 65536 g)

@@ -1,0 +1,38 @@
+/* Prints the report of a text book on standard input; with any argument, the adjusted heights of two sections.
+ *
+ *   cc -Wall -Wextra -o example embed/example.c target/staticlib/libfieldbook.a target/staticlib/libadjust.a
+ *   ./example <examples/case-a.book */
+#include "levelbook.h"
+
+#include <inttypes.h>
+#include <stdio.h>
+
+static int adjust(void)
+{
+    const struct level_leg sections[2] = {{2632, 2564}, {2200, 1600}};
+    int64_t heights[2];
+    const uint8_t number = level_adjust(sections, 2, 10000, 11206, heights, 2);
+    if (number != 0) {
+        fprintf(stderr, "refusal %u\n", number);
+        return 1;
+    }
+    printf("%" PRId64 "\n%" PRId64 "\n", heights[0], heights[1]);
+    return 0;
+}
+
+int main(int argc, char **argv)
+{
+    static uint8_t text[LEVEL_LONGEST_TEXT + 1]; /* a byte more, so that a longer text is noticed */
+    static uint8_t report[LEVEL_REPORT_ROOM];
+    (void)argv;
+    if (argc > 1)
+        return adjust();
+    const size_t text_length = fread(text, 1, sizeof text, stdin);
+    size_t length = 0;
+    const uint8_t number = level_reduce(text, text_length, report, sizeof report, &length);
+    if (number != 0) {
+        fprintf(stderr, "refusal %u\n", number);
+        return 1;
+    }
+    return fwrite(report, 1, length, stdout) == length ? 0 : 1;
+}

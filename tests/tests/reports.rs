@@ -1,0 +1,292 @@
+//! The report of a text book by the proved function, compared byte for byte with the other implementation's.
+use std::collections::BTreeMap;
+use std::sync::LazyLock;
+
+use level_tests::damage::{damage, rubbish, text_book};
+use level_tests::examples::{book, examples};
+use level_tests::generate::{line, Kind};
+use level_tests::mutate::any_call;
+use level_tests::plain::Call;
+use level_tests::random::Random;
+use level_tests::report::{reduce_into, SHORTEST_BUFFER};
+use level_tests::text::{number, LINE, LONGEST_TEXT};
+use level_tests::write::{filled, heading, line_of, text_of};
+use levelbook::raw::level_reduce;
+
+/// Bytes that no report has.
+static DIRT: LazyLock<Vec<u8>> = LazyLock::new(|| (0..1 << 20).map(|k| 128 + (k % 127) as u8).collect());
+
+fn words(bytes: &[u8]) -> String {
+    String::from_utf8_lossy(bytes).into_owned()
+}
+
+/// A length that no call writes.
+const UNWRITTEN: usize = usize::MAX;
+
+/// The proved call: the number of its refusal, 0 where it is taken, and the length that it leaves.
+fn proved(text: &[u8], buffer: &mut [u8]) -> (u8, usize) {
+    let mut length = UNWRITTEN;
+    // SAFETY: as in `levelbook::reduce_into`, which does not show what is left of the length by a refusal.
+    let number = unsafe { level_reduce(text.as_ptr(), text.len(), buffer.as_mut_ptr(), buffer.len(), &mut length) };
+    (number, length)
+}
+
+/// Both calls on the same text over the same dirty buffer: the report, or the number of the refusal.
+fn compare_in(text: &[u8], places: usize) -> Result<Vec<u8>, u8> {
+    let (mut given, mut expected) = (DIRT[..places].to_vec(), DIRT[..places].to_vec());
+    let answer = proved(text, &mut given);
+    let wanted = reduce_into(text, &mut expected);
+    if answer != wanted.map_or_else(|number| (number, UNWRITTEN), |length| (0, length)) || given != expected {
+        let place = given.iter().zip(&expected).position(|(one, other)| one != other);
+        let [given, expected] = [&given, &expected].map(|one| words(&one[..one.len().min(wanted.unwrap_or(0) + LINE)]));
+        panic!("{answer:?} for {wanted:?}, first difference at {place:?}; text\n{}\ngiven\n{given}\nexpected\n{expected}", words(text));
+    }
+    let length = wanted.inspect_err(|_| assert!(given == DIRT[..places], "a refusal touched the buffer"))?;
+    assert!(given[length..] == DIRT[length..places], "bytes beyond the report");
+    given.truncate(length);
+    assert!(has_the_form_of_a_report(&given), "{}", words(&given));
+    Ok(given)
+}
+
+/// The same with the shortest buffer.
+fn compare(text: &[u8]) -> Result<Vec<u8>, u8> {
+    compare_in(text, SHORTEST_BUFFER)
+}
+
+/// Whole lines of 83 columns, the title, one end.
+fn has_the_form_of_a_report(report: &[u8]) -> bool {
+    let shaped = report.chunks(LINE).all(|one| one.len() == LINE && one[83] == b'\n' && one[..83].is_ascii());
+    let ends = report.chunks(LINE).filter(|one| one.starts_with(b"CLO") || one.starts_with(b"OPN")).count();
+    shaped && report.starts_with(&filled("REDUCED LEVELS")) && ends == 1
+}
+
+/// The report's lines, each filled with blanks to 83 columns.
+fn pages(lines: &[&str]) -> Vec<u8> {
+    lines.iter().flat_map(|one| filled(one)).collect()
+}
+
+/// Field k of a report's line, counted from 0.
+fn field(line: &[u8], k: usize) -> i64 {
+    number(&line[3 + 8 * k..11 + 8 * k]).expect("a figure of the report")
+}
+
+#[test]
+fn the_examples() {
+    for example in examples() {
+        assert_eq!(words(&compare(&example.book).unwrap()), words(&example.report), "{}", example.name);
+    }
+}
+
+#[test]
+fn twenty_thousand_books() {
+    let mut random = Random::new(20_261_117);
+    let mut refusals = BTreeMap::<i64, u64>::new();
+    let mut verdicts = BTreeMap::<i64, u64>::new();
+    for _ in 0..20_000 {
+        let mut text = text_book(&mut random);
+        if random.chance(1, 8) {
+            for _ in 0..random.below(20) {
+                damage(&mut random, &mut text);
+            }
+        }
+        let Ok(report) = compare(&text) else { continue };
+        for line in report.chunks(LINE) {
+            match &line[..3] {
+                b"REF" => *refusals.entry(field(line, 1)).or_default() += 1,
+                b"CLO" => *verdicts.entry(field(line, 4)).or_default() += 1,
+                _ => {}
+            }
+        }
+    }
+    println!("verdict  lines closed");
+    verdicts.iter().for_each(|(verdict, count)| println!("{verdict:7} {count:13}"));
+    println!("refusal  text lines");
+    (1..=36).for_each(|number| println!("{number:7} {:11}", refusals.get(&number).unwrap_or(&0)));
+    assert!(refusals.keys().copied().eq((1..=8).chain(21..=36)), "{refusals:?}");
+    assert!(verdicts.keys().copied().eq(0..=2), "{verdicts:?}");
+}
+
+#[test]
+fn rubbish_with_and_without_a_heading() {
+    let mut random = Random::new(23);
+    let refused = pages(&["REDUCED LEVELS", "REF       1       1", "OPN       0"]);
+    for _ in 0..1_000 {
+        let mut text = rubbish(&mut random, 2_000);
+        assert_eq!(compare(&text), Ok(refused.clone()));
+        text.splice(0..0, heading());
+        compare(&text).unwrap();
+    }
+}
+
+#[test]
+fn the_first_line() {
+    let refused = Ok(pages(&["REDUCED LEVELS", "REF       1       1", "OPN       0"]));
+    let whole = book("case-a");
+    for text in [&b""[..], &whole[..83], &whole[84..], &[b' '; 84], &[b'x'; LONGEST_TEXT], b"LEVEL BOOK\n"] {
+        assert_eq!(compare(text), refused, "{}", words(text));
+    }
+    for other in ["level book", "LEVEL  BOOK", " LEVEL BOOK", "LEVEL BOOKS", "LEVEL BOOK 2", "REDUCED LEVELS", "LIN       4       3       1"] {
+        assert_eq!(compare(&[&filled(other), &whole[84..]].concat()), refused, "{other}");
+    }
+    assert_eq!(compare(&heading()), Ok(pages(&["REDUCED LEVELS", "OPN       0"])));
+    assert_eq!(compare(&[heading(), whole].concat()).unwrap()[84..168], filled("REF       2       1"));
+}
+
+/// A book of 64 sections that is closed; at third order each section is levelled out and back.
+fn sixty_four_sections(order: i64) -> Vec<Call> {
+    let station = |back_k: i64, back, fore| Call::Station { back_k, fore_k: 9_474 - back_k, readings: [back, fore] };
+    let out = [
+        station(4_787, [1_300, 1_100, 1_200, 5_987], [1_000, 800, 900, 5_587]),
+        station(4_687, [1_500, 1_300, 1_400, 6_087], [1_250, 1_050, 1_150, 5_937]),
+    ];
+    let back = [
+        station(4_687, [1_250, 1_050, 1_150, 5_837], [1_500, 1_300, 1_400, 6_187]),
+        station(4_787, [1_000, 800, 900, 5_687], [1_300, 1_100, 1_200, 5_887]),
+    ];
+    let mut calls = vec![Call::Open { order, instrument: 3, start: 1, height: 10_000 }];
+    for begin in 1..=64 {
+        calls.extend(out.clone());
+        calls.push(Call::EndRun(begin + 1));
+        if order == 3 {
+            calls.extend(back.clone());
+            calls.push(Call::EndRun(begin));
+        }
+    }
+    calls.push(Call::CloseLine { number: 65, height: 45_190 });
+    calls
+}
+
+#[test]
+fn sixty_four_sections_in_a_text() {
+    for (order, closing, second) in [
+        (3, "CLO      40  102400      64       0       1", "PNT       2    1600       0   10550"),
+        (4, "CLO      40  102400      64       0       0", "PNT       2    1600       0   10550"),
+    ] {
+        let report = compare(&text_of(&sixty_four_sections(order))).unwrap();
+        assert_eq!(report.len(), 67 * LINE);
+        assert_eq!(words(&report[LINE..2 * LINE]), words(&filled(closing)));
+        assert_eq!(words(&report[3 * LINE..4 * LINE]), words(&filled(second)));
+        assert_eq!(words(&report[66 * LINE..]), words(&filled("PNT      65  102400       0   45190")));
+    }
+}
+
+/// 777 lines: all refused but the heading; 64 sections with refused lines before the end; and any calls after a long line's.
+#[test]
+fn the_largest_text() {
+    for (words, refusal) in [("", 1), ("RUN", 2), ("LIN       5       3       1       0", 3), ("DRR", 21)] {
+        let text: Vec<u8> = heading().into_iter().chain(filled(words).repeat(776)).collect();
+        assert_eq!(text.len(), LONGEST_TEXT);
+        let report = compare(&text).unwrap();
+        assert_eq!(report.len(), 778 * LINE);
+        assert_eq!(report[776 * LINE..777 * LINE], filled(&format!("REF     777{refusal:>8}")));
+    }
+    for order in [3, 4] {
+        let mut calls = sixty_four_sections(order);
+        let end = calls.pop().unwrap();
+        calls.resize(775, Call::EndRun(7));
+        calls.push(end);
+        let report = compare(&text_of(&calls)).unwrap();
+        assert_eq!(report.len(), (67 + 776 - if order == 3 { 386 } else { 194 }) * LINE);
+    }
+    let mut random = Random::new(24);
+    for _ in 0..200 {
+        let kind = *random.pick(&[Kind::Many, Kind::Long, Kind::Verdict, Kind::Loop]);
+        let mut calls = line(&mut random, kind);
+        calls.retain(|call| line_of(call).is_some());
+        while calls.len() < 776 {
+            let call = any_call(&mut random);
+            if line_of(&call).is_some() {
+                let place = random.below(calls.len() as u64 + 1) as usize;
+                calls.insert(place, call);
+            }
+        }
+        calls.truncate(776);
+        compare(&text_of(&calls)).unwrap();
+    }
+}
+
+/// Every length up to 300 bytes and about the longest, of a book that is cut, of blanks, and of a heading with rubbish behind it.
+#[test]
+fn every_length() {
+    let mut random = Random::new(25);
+    let mut long = text_of(&sixty_four_sections(4));
+    while long.len() < 65_400 {
+        long.extend(filled("DRR"));
+    }
+    let mut after_heading = heading();
+    after_heading.extend((0..65_400).map(|_| random.next() as u8));
+    let blanks = vec![b' '; 65_400];
+    for length in (0..=300).chain(65_200..=65_350) {
+        for text in [&long, &after_heading, &blanks] {
+            let report = compare(&text[..length]);
+            assert_eq!(report.err(), (length > LONGEST_TEXT).then_some(9), "{length} bytes");
+        }
+    }
+}
+
+#[test]
+fn every_buffer() {
+    let largest: Vec<u8> = heading().into_iter().chain(filled("").repeat(776)).collect();
+    let too_long = [&largest[..], b" "].concat();
+    let far_too_long = vec![b' '; 1 << 20];
+    for text in [b"".to_vec(), book("case-a"), largest] {
+        for places in [0, 1, 83, 84, 5 * LINE, 65_352, 65_534, 65_535] {
+            assert_eq!(compare_in(&text, places), Err(10), "{places} bytes");
+        }
+        for places in [65_536, 65_537, 65_620, 131_072, 1 << 20] {
+            compare_in(&text, places).unwrap();
+        }
+    }
+    for text in [too_long, far_too_long] {
+        for places in [0, 1, 65_535, 65_536, 65_537, 1 << 20] {
+            assert_eq!(compare_in(&text, places), Err(9), "{places} bytes");
+        }
+    }
+}
+
+#[test]
+fn line_feeds_missing_doubled_or_others() {
+    for whole in [book("case-a"), book("section-dropped"), text_of(&sixty_four_sections(3))] {
+        for feed in (83..whole.len()).step_by(LINE) {
+            for other in [&b""[..], b"\n\n", b" ", b"\r", b"\r\n", b"\n\r", b"\0", b" \n", b"\n "] {
+                let mut text = whole.clone();
+                text.splice(feed..=feed, other.iter().copied());
+                compare(&text).unwrap();
+            }
+        }
+        for other in ["", "\n\n", "\r\n", "\r"] {
+            compare(words(&whole).replace('\n', other).as_bytes()).unwrap();
+        }
+    }
+}
+
+/// A byte changed, put in and taken out at every place.
+#[test]
+fn bytes_at_every_place() {
+    let whole = book("case-a");
+    for place in 0..whole.len() {
+        for byte in *b"\0\xff \n\r\t-+.019ASk\x7f\x80\xa0" {
+            let mut text = whole.clone();
+            text[place] = byte;
+            compare(&text).unwrap();
+            text.insert(place, whole[place]);
+            compare(&text).unwrap();
+        }
+        let mut text = whole.clone();
+        text.remove(place);
+        compare(&text).unwrap();
+    }
+}
+
+/// All 256 bytes at every place of a short text.
+#[test]
+fn all_bytes() {
+    let whole = [heading(), filled("LIN       4       3       1   10000"), filled("END       1   -9999")].concat();
+    for place in 0..whole.len() {
+        for byte in 0..=255 {
+            let mut text = whole.clone();
+            text[place] = byte;
+            compare(&text).unwrap();
+        }
+    }
+}
