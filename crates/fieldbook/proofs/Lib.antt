@@ -5,6 +5,7 @@ pub mod Calls
 pub mod Figures
 pub mod Widths
 pub mod States
+pub mod ReaderWalks
 pub mod Lines
 pub mod Written
 pub mod Reports

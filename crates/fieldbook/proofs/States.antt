@@ -12,7 +12,7 @@ use lib.Seq.{take-all}
 use Rattle.columns.specs.Decimals.{same}
 use Rattle.columns.specs.Lines.{heading}
 use Rattle.fieldbook.specs.declared.reading.State.{State}
-use Rattle.fieldbook.specs.State.{withHeading, withRecord, stateWith, lineAt, stateAfter}
+use Rattle.fieldbook.specs.State.{freshState, withHeading, withRecord, stateWith, lineAt, stateAfter}
 
 -- ---- one line
 
@@ -58,6 +58,10 @@ module _ (t : List ℕ) where
       let r = drop (84 * (k - 1)) t in
       let d : length r ≡ length t - 84 * (k - 1) = length-drop (84 * (k - 1)) t in
       take-all (length t - 84 * (k - 1)) r (omega (arith, d)) ∙ sym (take-all 84 r (omega (arith, d))) ∙ sym (line-is k h)
+
+  pub after-none : freshState ≡ stateAfter t 0
+  unfolding stateAfter
+  after-none = refl
 
   pub after-more : (k : ℕ) → stateAfter t (k + 1) ≡ stateWith (stateAfter t k) (lineAt t (k + 1)) (k + 1)
   unfolding stateAfter

@@ -1,7 +1,7 @@
 -- What the reader keeps by value from line to line, and the line that it reads next.
 use mathlib.Core.Bool.{Bool, cond}
 use mathlib.Core.List.{List, [], _∷_}
-use Prim.Native.Nat.{ℕ, zero, suc, _+_, _-_, _*_, _/_}
+use Prim.Native.Nat.{ℕ, zero, suc, _+_, _-_, _*_, _/_, min}
 use lib.Dec.{eqb}
 use lib.ListN.{length, getD, set, take, drop, replicate}
 use Rattle.numbers.specs.Whole.{filled}
@@ -54,6 +54,10 @@ lineAt text (suc k) = take 84 (drop (84 * k) text)
 -- how many lines n bytes have
 abbrev pub lineCount : ℕ → ℕ
 lineCount n = (n + 83) / 84
+
+-- the number after k in 64 bits, the largest of which stays
+abbrev pub numberAfter : ℕ → ℕ
+numberAfter k = min (k + 1) 18446744073709551615
 
 -- after the first k lines
 unfoldable pub stateAfter : List ℕ → ℕ → State

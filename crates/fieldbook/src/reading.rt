@@ -1,10 +1,9 @@
-// A text read line by line.
+// The lines of a text, and what each makes of the state.
 ghost use mathlib.Core.Path.{_≡_};
 ghost use mathlib.Core.List.{_∷_};
 ghost use lib.IntN.{pos};
-ghost use lib.ListN.{length};
 ghost use Rattle.fieldbook.specs.Text.{kindOf};
-ghost use Rattle.fieldbook.specs.State.{lineStep, freshState, withHeading, withRecord, stateWith, lineAt, lineCount, stateAfter};
+ghost use Rattle.fieldbook.specs.State.{lineStep, freshState, withHeading, withRecord, stateWith, lineAt, lineCount};
 use book::Book;
 use columns::reader::Kind;
 use columns::reader::Line;
@@ -134,22 +133,9 @@ pub(crate) fn line_at<'a>(text: &'a [u8], number: usize) -> &'a [u8]
 }
 
 // How many lines a text of n bytes has.
-fn count_lines(n: usize) -> usize
+pub(crate) fn count_lines(n: usize) -> usize
     ensures { λ r. ⌜ r ≡ lineCount n ⌝ }
 {
     let whole = n / 84;
     if n % 84 == 0 { whole } else { whole + 1 }
-}
-
-pub(crate) fn read_text(text: &[u8]) -> State
-    ensures { λ r. ⌜ r ≡ stateAfter (now (text .entry)) (lineCount (length (now (text .entry)))) ⌝ }
-{
-    let n = count_lines(text.len());
-    let mut s = fresh_state();
-    let mut k = 0;
-    while k < n {
-        k += 1;
-        s = take_line(s, line_at(text, k), k);
-    }
-    s
 }
