@@ -33,10 +33,10 @@ use Rattle.ledger.proofs.Again.{bookOf, fresh-holds, figures-again}
 use Rattle.ledger.proofs.Traced.{points-back}
 use Rattle.fieldbook.specs.declared.reading.State.{State}
 use Rattle.fieldbook.specs.Text.{Refusal, lineNext, lineNumbers, readingAfter, refusalsFrom, callsOf}
-use Rattle.fieldbook.specs.Report.{refLine, openLine, closingLines, resultLines, reportOf, withoutHeading, reportLines, report, textRefusal, bufferAfter, reducedAs, reducedOf}
+use Rattle.fieldbook.specs.Report.{refLine, openLine, closingLines, resultLines, reportOf, withoutHeading, reportLines, report, textRefusal, bufferAfter, reducedAs, reducedOf, printedFor, printedInto, printedLength}
 use Rattle.fieldbook.specs.Fits.{closedFits, pointFits}
 use Rattle.fieldbook.specs.State.{lineCount, stateAfter}
-use Rattle.fieldbook.specs.Printed.{closingIn, bookLines, stateLines, ClosingFits, Printable}
+use Rattle.fieldbook.specs.Printed.{refusalBytes, closingIn, bookLines, stateLines, ClosingFits, Printable}
 use Rattle.fieldbook.proofs.Bytes.{text-lines}
 use Rattle.fieldbook.proofs.Calls.{reading-calls}
 use Rattle.fieldbook.proofs.Widths.{figures-fit}
@@ -164,3 +164,22 @@ module _ (t d : List ℕ) where
   pub not-refused : length t ≤ 65268 → 65536 ≤ length d → textRefusal t d ≡ 0
   unfolding textRefusal
   not-refused h g = rw (le-ltb 65268 (length t) h, le-ltb (length d) 65536 g)
+
+  -- what the program prints: nothing into a small buffer, REF 0 9, the report
+  pub prints-nothing : length d < 65536 → (printedLength t d ≡ 0) × (printedInto t d ≡ d)
+  unfolding printedLength printedInto
+  prints-nothing h =
+      let e = lt-ltb (length d) 65536 h in
+      (ap (λ (b : Bool). cond b 0 (length (printedFor t))) e, ap (λ (b : Bool). cond b d (putAt d 0 (printedFor t))) e)
+
+  pub prints : 65536 ≤ length d → (s : List ℕ) → printedFor t ≡ s → (printedLength t d ≡ length s) × (printedInto t d ≡ putAt d 0 s)
+  unfolding printedLength printedInto
+  prints h s p =
+      let e = le-ltb (length d) 65536 h in
+      (λ i. cond (e i) 0 (length (p i)), λ i. cond (e i) d (putAt d 0 (p i)))
+
+pub prints-9 : (t : List ℕ) → 65268 < length t → printedFor t ≡ refusalBytes 0 9
+prints-9 t h = ap (λ (b : Bool). cond b (refusalBytes 0 9) (report t)) (lt-ltb 65268 (length t) h)
+
+pub prints-report : (t : List ℕ) → length t ≤ 65268 → printedFor t ≡ report t
+prints-report t h = ap (λ (b : Bool). cond b (refusalBytes 0 9) (report t)) (le-ltb 65268 (length t) h)

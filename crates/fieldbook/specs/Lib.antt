@@ -3,4 +3,5 @@ pub mod State
 pub mod Report
 pub mod Fits
 pub mod Printed
+pub mod Worked
 pub mod Claims

@@ -97,3 +97,16 @@ reducedAs n long = cond (eqb n 0) (Written long) (Refused n)
 
 unfoldable pub reducedOf : List ℕ → List ℕ → Reduced
 reducedOf text buffer = reducedAs (textRefusal text buffer) (length (report text))
+
+-- ---- the program
+
+-- what the program prints of a text: its report, or for 9 the single line REF 0 9, without a title
+abbrev pub printedFor : List ℕ → List ℕ
+printedFor text = cond (ltb 65268 (length text)) (refLine (record { line = 0; number = 9 })) (report text)
+
+-- the buffer with that at its beginning, and its length; nothing where the buffer has less than 65,536 bytes
+unfoldable pub printedInto : List ℕ → List ℕ → List ℕ
+printedInto text buffer = cond (ltb (length buffer) 65536) buffer (putAt buffer 0 (printedFor text))
+
+unfoldable pub printedLength : List ℕ → List ℕ → ℕ
+printedLength text buffer = cond (ltb (length buffer) 65536) 0 (length (printedFor text))

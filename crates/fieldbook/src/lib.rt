@@ -1,6 +1,6 @@
 // The text book and its report: from the bytes of a text to the bytes of a report.
 ghost use mathlib.Core.Path.{_≡_};
-ghost use Rattle.fieldbook.specs.Report.{bufferAfter, reducedNumber, reducedLength, reducedOf};
+ghost use Rattle.fieldbook.specs.Report.{bufferAfter, reducedNumber, reducedLength, reducedOf, printedInto, printedLength};
 
 mod printing;
 mod reader;
@@ -45,7 +45,22 @@ fn length_of(r: Reduced, old: usize) -> usize
     }
 }
 
-// The same for C and Rust, where each list is a pointer and a length: document 01's number. The report's length goes into `length`.
+// What the program prints of a text, into a lent buffer: its length.
+pub fn print_text(text: &[u8], out: &mut [u8]) -> usize
+    ensures { λ n. ⌜ n ≡ printedLength (now (text .entry)) (now (out .entry)) ⌝ }
+    ensures { λ n. ⌜ now (out .exit) ≡ printedInto (now (text .entry)) (now (out .entry)) ⌝ }
+{
+    if out.len() < 65536 {
+        return 0;
+    }
+    if 65268 < text.len() {
+        return printing::put_refusal(out, 0, 0, 9);
+    }
+    let r = reduce_text(text, out);
+    length_of(r, 0)
+}
+
+// `reduce_text` for C and Rust, where each list is a pointer and a length: document 01's number. The report's length goes into `length`.
 #[no_mangle]
 pub extern "C" fn level_reduce(text: &[u8], report: &mut [u8], length: &mut usize) -> u8
     ensures { λ n. ⌜ n ≡ reducedNumber (reducedOf (now (text .entry)) (now (report .entry))) ⌝ }

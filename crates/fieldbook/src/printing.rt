@@ -21,7 +21,7 @@ use columns::writer::put_line;
 use columns::writer::put_title;
 
 // The refusal of a line, where there is one: the index after it.
-fn put_refusal(buf: &mut [u8], at: usize, line: usize, number: u8) -> usize
+pub(crate) fn put_refusal(buf: &mut [u8], at: usize, line: usize, number: u8) -> usize
     requires { ⌜ (at + 84 ≤ length (now buf)) × (line ≤ 777) ⌝ }
     ensures { λ r. ⌜ r ≡ at + length (refusalBytes line number) ⌝ }
     ensures { λ r. ⌜ now (buf .exit) ≡ putAt (now (buf .entry)) at (refusalBytes line number) ⌝ }

@@ -1,9 +1,7 @@
 // reduce: a text book on standard input, its report on standard output.
 ghost use mathlib.Core.Path.{_≡_};
 ghost use lib.ListN.{length};
-use columns::writer::put_line;
-use fieldbook::Reduced;
-use fieldbook::reduce_text;
+use fieldbook::print_text;
 
 // Room for one byte more than the longest text: what fills it is too long, and the rest is not waited for.
 fn text_buffer() -> [u8; 65269]
@@ -12,28 +10,17 @@ fn text_buffer() -> [u8; 65269]
     [0; 65269]
 }
 
-// The single line of a text that is refused.
-fn print_refusal(to: i32, number: u8) -> bool {
-    let mut space = [0u8; 84];
-    let numbers = [0, number as i64];
-    put_line(&mut space, 0, b"REF", &numbers, false);
-    io::write_all(to, &space)
-}
-
 // False where the output takes nothing more.
 fn run(from: i32, to: i32) -> bool {
     let mut text = text_buffer();
-    let n = io::read_full(from, &mut text);
-    let mut report = io::large_buffer();
-    match reduce_text(&text[..n], &mut report) {
-        Reduced::Written(long) => {
-            if long <= 65536 {
-                return io::write_all(to, &report[0..long]);
-            }
-            false
-        }
-        Reduced::Refused(number) => print_refusal(to, number),
+    let read = io::read_full(from, &mut text);
+    let mut out = io::large_buffer();
+    let n = print_text(&text[..read], &mut out);
+    // always so: no report is longer
+    if n <= 65536 {
+        return io::write_all(to, &out[0..n]);
     }
+    false
 }
 
 fn main() {
