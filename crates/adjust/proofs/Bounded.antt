@@ -9,7 +9,7 @@ use Rattle.adjust.specs.declared.Section.{Section}
 use Rattle.adjust.specs.declared.heights.Known.{Known}
 use Rattle.adjust.specs.Line.{exactTop, printedHeight, accidental}
 use Rattle.adjust.specs.Frames.{frame}
-use Rattle.adjust.specs.Bounds.{Framed, Leg}
+use Rattle.adjust.specs.Bounds.{Framed, LegBounds}
 
 module _ (f : Known) (q s : ℤ) (h : Framed f) (hq : natAbs q ≤ 3200000000) (hs : natAbs s ≤ 76800000) where
   exact-size : natAbs (exactTop (frame f) q s) ≤ 499814399078400000
@@ -24,7 +24,7 @@ module _ (f : Known) (q s : ℤ) (h : Framed f) (hq : natAbs q ≤ 3200000000) (
       omega (arith, round-size (exactTop (frame f) q s) (natAbs (pos 4 *ℤ f .total)) long, exact-size)
 
 -- t of a section in the wider range
-pub accidental-size : (x : Section) → natAbs (x .discrepancy) ≤ 100000 → Leg x → natAbs (accidental x) ≤ 5000000000000001
+pub accidental-size : (x : Section) → natAbs (x .discrepancy) ≤ 100000 → LegBounds x → natAbs (accidental x) ≤ 5000000000000001
 accidental-size x d h =
     let long : 0 < natAbs (x .distance) = omega (ints, h .long, parts-abs (x .distance)) in
     let top = mul (literal (pos 500000)) (mul (plain (x .discrepancy) d) (plain (x .discrepancy) d)) in

@@ -4,7 +4,7 @@ use mathlib.Core.List.{List, [], _∷_, _++_, map, append-assoc}
 use Prim.Native.Nat.{ℕ, zero, suc, _+_, _≤_, _<_}
 use native.Mathlib.Numerals.{add-one}
 use native.Mathlib.Omega.{arith}
-use lib.ListN.{length, getD, set, drop, length-append}
+use lib.ListN.{length, getD, set, drop, length-append, length-map}
 use lib.Seq.{drop-cons}
 use lib.IntN.{ℤ, pos}
 use Rattle.adjust.specs.declared.Section.{Section}
@@ -20,13 +20,9 @@ pub record Whole (s : Sections) : Type 0 where
   pub distances : length (s .distances) ≡ 64
   pub discrepancies : length (s .discrepancies) ≡ 64
 
-map-append : {A B : Type 0} (f : A → B) (xs ys : List A) → map f (xs ++ ys) ≡ map f xs ++ map f ys
+pub map-append : {A B : Type 0} (f : A → B) (xs ys : List A) → map f (xs ++ ys) ≡ map f xs ++ map f ys
 map-append f [] ys = refl
 map-append f (x ∷ xs) ys = ap (λ (l : List _). f x ∷ l) (map-append f xs ys)
-
-map-length : {A B : Type 0} (f : A → B) (xs : List A) → length (map f xs) ≡ length xs
-map-length f [] = refl
-map-length f (x ∷ xs) = ap suc (map-length f xs)
 
 -- ---- the list is read back
 
@@ -74,13 +70,13 @@ module _ (s : Sections) (f : Section → ℤ) (a : List ℤ) (e : (k : ℕ) → 
   own : s .count ≤ length a → over (map f (sectionsOf s)) a ≡ a
   own h =
       let z : s .count ≡ 0 + s .count = omega arith in
-      ap (λ (m : ℕ). map f (sectionsOf s) ++ drop m a) (map-length f (sectionsOf s) ∙ from-length s 0 (s .count) ∙ z)
+      ap (λ (m : ℕ). map f (sectionsOf s) ++ drop m a) (length-map (sectionsOf s) f ∙ from-length s 0 (s .count) ∙ z)
       ∙ own-from 0 (s .count) (omega arith)
 
   -- and one more, x
   more : (x : Section) → s .count < length a → over (map f (sectionsOf s ++ (x ∷ []))) a ≡ set a (s .count) (f x)
   more x h =
-      let n = map-length f (sectionsOf s) ∙ from-length s 0 (s .count) in
+      let n = length-map (sectionsOf s) f ∙ from-length s 0 (s .count) in
       ap (λ (l : List ℤ). over l a) (map-append f (sectionsOf s) (x ∷ []))
       ∙ sym (over-next (map f (sectionsOf s)) a (f x) (omega (arith, n)))
       ∙ (λ i. set (own (omega arith) i) (n i) (f x))
@@ -136,4 +132,4 @@ holding-again s xs ys h = λ i.
     }
   where
     covers : (f : Section → ℤ) (a : List ℤ) → over (map f ys) (over (map f xs) a) ≡ over (map f ys) a
-    covers f a = over-again (map f xs) (map f ys) a (omega (arith, map-length f xs, map-length f ys))
+    covers f a = over-again (map f xs) (map f ys) a (omega (arith, length-map xs f, length-map ys f))

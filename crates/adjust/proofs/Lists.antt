@@ -16,7 +16,7 @@ use Rattle.numbers.proofs.Sizes.{within-size}
 use Rattle.adjust.specs.declared.Section.{Section}
 use Rattle.adjust.specs.declared.Sections.{Sections}
 use Rattle.adjust.specs.Sections.{sectionAt, sectionsFrom, sectionsOf, legInRange, legFits, sectionFits}
-use Rattle.adjust.specs.Bounds.{Leg}
+use Rattle.adjust.specs.Bounds.{LegBounds}
 
 -- ---- the sections from place k on, which a loop has still to visit
 
@@ -54,7 +54,7 @@ from-length s k (suc n) = ap suc (from-length s (k + 1) n)
 abbrev pub Fit : List Section → Type 0
 Fit xs = All legFits xs
 
-pub leg-bounds : (x : Section) → legFits x ≡ true → Leg x
+pub leg-bounds : (x : Section) → legFits x ≡ true → LegBounds x
 leg-bounds x e =
     let q = within (x .height) 50000000 in
     let r = and-r q (between (pos 1) (x .distance) (pos 1200000)) e in
@@ -66,7 +66,7 @@ leg-bounds x e =
       distance = omega (ints, parts-abs (x .distance));
     }
 
-pub fit-head : (x : Section) (xs : List Section) → Fit (x ∷ xs) → Leg x
+pub fit-head : (x : Section) (xs : List Section) → Fit (x ∷ xs) → LegBounds x
 fit-head x xs e = leg-bounds x (all-head legFits x xs e)
 
 pub fit-tail : (x : Section) (xs : List Section) → Fit (x ∷ xs) → Fit xs

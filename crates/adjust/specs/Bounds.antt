@@ -29,7 +29,7 @@ pub record Between (start end : ℤ) (s : Sections) : Type 0 where
   pub start-size : natAbs start ≤ 8999999
   pub end-size : natAbs end ≤ 8999999
 
-pub record Leg (x : Section) : Type 0 where
+pub record LegBounds (x : Section) : Type 0 where
   pub height : natAbs (x .height) ≤ 50000000
   pub long : pos 1 ≤ℤ x .distance
   pub distance : natAbs (x .distance) ≤ 1200000

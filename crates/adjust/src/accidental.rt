@@ -6,7 +6,7 @@ ghost use lib.IntN.{natAbs, _+ℤ_};
 ghost use Rattle.numbers.specs.Whole.{sum};
 ghost use Rattle.adjust.specs.Sections.{sectionsOf};
 ghost use Rattle.adjust.specs.Line.{accidental, accidentalSum, verdict};
-ghost use Rattle.adjust.specs.Bounds.{Fitted, Leg};
+ghost use Rattle.adjust.specs.Bounds.{Fitted, LegBounds};
 use super::Section;
 use super::Sections;
 use super::table::section_at;
@@ -20,7 +20,7 @@ struct Total {
 
 // t of one section more.
 fn with_square(t: Total, x: Section) -> Total
-    requires { ⌜ (natAbs (t .squares) ≤ 400000000000000000) × (natAbs (x .discrepancy) ≤ 100000) × Leg x ⌝ }
+    requires { ⌜ (natAbs (t .squares) ≤ 400000000000000000) × (natAbs (x .discrepancy) ≤ 100000) × LegBounds x ⌝ }
     ensures { λ r. ⌜ r ≡ record { squares = t .squares +ℤ accidental x } ⌝ }
 {
     let d = x.discrepancy;

@@ -7,7 +7,7 @@ ghost use Rattle.numbers.specs.Whole.{filled};
 ghost use Rattle.adjust.specs.Sections.{sectionsOf};
 ghost use Rattle.adjust.specs.Line.{closure, lineLength, exactTop, printedHeight, pointAfter, points};
 ghost use Rattle.adjust.specs.Frames.{frame, noPoint};
-ghost use Rattle.adjust.specs.Bounds.{Fits, Between, Leg, Framed, Reached};
+ghost use Rattle.adjust.specs.Bounds.{Fits, Between, LegBounds, Framed, Reached};
 use super::Point;
 use super::Section;
 use super::Sections;
@@ -58,7 +58,7 @@ fn printed_height(f: Known, q: i64, s: i64) -> i64
 
 // The point at the end of the next section.
 fn next_point(f: Known, w: Progress, x: Section) -> Progress
-    requires { ⌜ Framed f × Reached 63 w × Leg x ⌝ }
+    requires { ⌜ Framed f × Reached 63 w × LegBounds x ⌝ }
     ensures { λ r. ⌜ r ≡ record { height = w .height +ℤ x .height; point = pointAfter (frame f) (w .height) (w .point .distance) (w .point .height) x } ⌝ }
 {
     let q = w.height + x.height;

@@ -4,7 +4,7 @@ ghost use Prim.Native.Nat.{_<_};
 ghost use lib.IntN.{_+ℤ_};
 ghost use Rattle.adjust.specs.Sections.{sectionsOf};
 ghost use Rattle.adjust.specs.Line.{lineHeight, lineLength};
-ghost use Rattle.adjust.specs.Bounds.{Fits, Leg, Summed};
+ghost use Rattle.adjust.specs.Bounds.{Fits, LegBounds, Summed};
 use super::Section;
 use super::Sections;
 use super::table::section_at;
@@ -15,7 +15,7 @@ pub(crate) struct Sums {
 }
 
 fn with_section(t: Sums, x: Section) -> Sums
-    requires { ⌜ Summed 64 t × Leg x ⌝ }
+    requires { ⌜ Summed 64 t × LegBounds x ⌝ }
     ensures { λ r. ⌜ r ≡ record { height = t .height +ℤ x .height; distance = t .distance +ℤ x .distance } ⌝ }
 {
     Sums {

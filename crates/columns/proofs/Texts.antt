@@ -1,6 +1,6 @@
 -- Lines of a text: the next line, the end of the text, and that a text is its lines joined.
 use mathlib.Core.Path.{_≡_, refl, sym, ap, _∙_}
-use mathlib.Core.List.{List, [], _∷_, _++_}
+use mathlib.Core.List.{List, [], _∷_, _++_, append-assoc}
 use Prim.Native.Nat.{ℕ, zero, suc, _+_, _-_, _≤_, _<_, min}
 use native.Mathlib.Omega.{arith}
 use lib.ListN.{length, take, drop, getD, length-drop, length-take, length-append, take-append-drop, drop-of-length-le}
@@ -48,6 +48,11 @@ next-part t at end h q =
     sym (take-take (end - at) 84 (drop at t) (omega arith)) ∙ take-all (end - at) (take 84 (drop at t)) (omega arith)
 
 -- ---- a text and its lines
+
+pub joined-append : (xs ys : List (List ℕ)) → joined (xs ++ ys) ≡ joined xs ++ joined ys
+unfolding joined
+joined-append [] ys = refl
+joined-append (x ∷ xs) ys = ap (λ (l : List ℕ). x ++ l) (joined-append xs ys) ∙ sym (append-assoc x (joined xs) (joined ys))
 
 joined-by : (f : ℕ) (t : List ℕ) → length t ≤ f → joined (linesBy f t) ≡ t
 unfolding linesBy joined

@@ -9,3 +9,4 @@ pub mod ReaderWalks
 pub mod Lines
 pub mod Written
 pub mod Reports
+pub mod Whole

@@ -44,7 +44,7 @@ use Rattle.fieldbook.proofs.Lines.{read, unread, stateOf, text-state, r
 
 -- ---- the book of a reading
 
-closed-stage : (s : Stage) → isClosed s ≡ true → s ≡ Closed
+pub closed-stage : (s : Stage) → isClosed s ≡ true → s ≡ Closed
 closed-stage Fresh e = let z : _≡_ {A = ℕ} 0 1 = cc in absurd (omega arith)
 closed-stage Open e = let z : _≡_ {A = ℕ} 0 1 = cc in absurd (omega arith)
 closed-stage Closed e = refl
@@ -92,7 +92,7 @@ calls-printable calls =
 
 -- ---- a text
 
-numbers-long : (r : Reading) (ls : List (List ℕ)) → length (lineNumbers r ls) ≡ length ls
+pub numbers-long : (r : Reading) (ls : List (List ℕ)) → length (lineNumbers r ls) ≡ length ls
 numbers-long r [] = refl
 numbers-long r (l ∷ ls) = ap suc (numbers-long (lineNext r (lineIn l)) ls)
 
@@ -133,7 +133,7 @@ state-printable (l ∷ ls) =
     by-test (same l heading) (λ b. Printable (cond b (read (last ls) (lineNumbers freshReading ls)) unread .book)) (λ b. read-printable ls) (λ b. fresh-printable)
 
 module _ (t : List ℕ) (h : length t ≤ 65268) where
-  few-lines : length (lines t) ≤ 777
+  pub few-lines : length (lines t) ≤ 777
   unfolding lines
   few-lines = omega (arith, text-lines (length t) t)
 

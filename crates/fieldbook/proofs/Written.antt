@@ -1,6 +1,6 @@
 -- Lines written one after the other into a buffer: a line that fits, and what a loop has left to write.
-use mathlib.Core.Path.{_≡_, refl, sym, ap, _∙_}
-use mathlib.Core.Bool.{Bool, true, false, not, cond, _||_}
+use mathlib.Core.Path.{_≡_, refl, sym, ap, subst, _∙_}
+use mathlib.Core.Bool.{Bool, true, false, cond}
 use mathlib.Core.List.{List, [], _∷_, _++_, map, append-assoc, append-nil}
 use Prim.Native.Nat.{ℕ, suc, _+_, _*_, _≤_, _<_}
 use native.Mathlib.Numerals.{add-one}
@@ -10,8 +10,8 @@ use lib.Dec.{eqb}
 use lib.IntN.{ℤ, pos}
 use lib.ListN.{length, getD, take, drop, length-append, length-take, drop-of-length-le}
 use lib.Seq.{getD-take}
-use Rattle.numbers.specs.Whole.{anyOf}
-use Rattle.numbers.proofs.Tests.{by-test, or-l, or-r, not-false}
+use Rattle.numbers.proofs.Tests.{by-test}
+use Rattle.numbers.proofs.All.{all-head, all-tail}
 use Rattle.adjust.specs.declared.Point.{Point}
 use Rattle.adjust.specs.declared.Adjusted.{Adjusted}
 use Rattle.adjust.specs.Frames.{noPoint}
@@ -21,6 +21,7 @@ use Rattle.columns.specs.Texts.{joined}
 use Rattle.columns.proofs.Put.{length-putAt, put-none, put-after, placed-room}
 use Rattle.columns.proofs.Lines.{length-line, length-title}
 use Rattle.columns.proofs.Lists.{drop-next}
+use Rattle.columns.proofs.Texts.{joined-append}
 use Rattle.book.specs.declared.Book.{Book}
 use Rattle.book.specs.Standing.{isClosed}
 use Rattle.book.specs.Calls.{figuresOf}
@@ -84,11 +85,6 @@ module _ {whole d₀ : List ℕ} {from : ℕ} {rest d : List ℕ} {at : ℕ} (l 
   pub left-none : rest ≡ [] → (at ≡ from + length whole) × (d ≡ putAt d₀ from whole)
   left-none e = (omega (arith, l .ends, ap length e), sym (put-none d at) ∙ ap (putAt d at) (sym e) ∙ l .put)
 
-joined-append : (xs ys : List (List ℕ)) → joined (xs ++ ys) ≡ joined xs ++ joined ys
-unfolding joined
-joined-append [] ys = refl
-joined-append (x ∷ xs) ys = ap (λ (l : List ℕ). x ++ l) (joined-append xs ys) ∙ sym (append-assoc x (joined xs) (joined ys))
-
 -- ---- refusals
 
 module _ (ns : List ℕ) where
@@ -132,17 +128,14 @@ module _ (ps : List Point) (n : ℕ) where
   no-point-left k h = ap (λ (x : List Point). joined (map pointLine x)) (drop-of-length-le (take n ps) {i = k} (omega (arith, length-take n ps)))
 
 module _ {p : Point} {ps qs : List Point} (e : qs ≡ p ∷ ps) (f : pointsFit qs) where
-  abbrev unfit : Point → Bool
-  unfit x = not (pointFits x)
-
-  both : anyOf unfit (p ∷ ps) ≡ false
-  both = sym (ap (anyOf unfit) e) ∙ f
+  both : pointsFit (p ∷ ps)
+  both = subst pointsFit e f
 
   pub first-fits : pointFits p ≡ true
-  first-fits = not-false (pointFits p) (or-l (unfit p) (anyOf unfit ps) both)
+  first-fits = all-head pointFits p ps both
 
   pub others-fit : pointsFit ps
-  others-fit = or-r (unfit p) (anyOf unfit ps) both
+  others-fit = all-tail pointFits p ps both
 
   pub point-piece : joined (map pointLine qs) ≡ pointLine p ++ joined (map pointLine ps)
   unfolding joined
@@ -155,7 +148,7 @@ pub points-long : (ps : List Point) → pointsFit ps → length (joined (map poi
 unfolding joined
 points-long [] f = refl
 points-long (p ∷ ps) f =
-    omega (arith, length-append (pointLine p) (joined (map pointLine ps)), point-long p (first-fits {p = p} {ps = ps} {qs = p ∷ ps} refl f), points-long ps (others-fit {p = p} {qs = p ∷ ps} refl f))
+    omega (arith, length-append (pointLine p) (joined (map pointLine ps)), point-long p (all-head pointFits p ps f), points-long ps (all-tail pointFits p ps f))
 
 -- ---- what closing the line gave
 

@@ -1,21 +1,27 @@
--- That what is printed fits: the report its buffer, each number its field.
+-- That what is printed fits, and nothing is left out for want of room.
 use mathlib.Core.Path.{_≡_}
 use mathlib.Core.Bool.{Bool, true, false, not}
 use Prim.Native.Nat.{ℕ, _≤_}
 use mathlib.Core.List.{List}
+use lib.Dec.{eqb}
 use lib.ListN.{length}
 use Rattle.numbers.specs.Whole.{anyOf}
 use Rattle.adjust.specs.declared.Point.{Point}
 use Rattle.adjust.specs.declared.Summary.{Summary}
 use Rattle.columns.specs.Lines.{lineFits, isWide}
+use Rattle.columns.specs.Texts.{lines}
 use Rattle.book.specs.declared.Stage.the-variants.{Closed}
 use Rattle.book.specs.Rules.{Call}
 use Rattle.ledger.specs.Plain.{freshReading, after, figuresOf}
-use Rattle.fieldbook.specs.Report.{closedNumbers, pointNumbers, report}
+use Rattle.fieldbook.specs.Report.{closedNumbers, pointNumbers, reportLines, report}
 
--- the smallest buffer that is not refused
+-- a buffer of 65,536 bytes, the smallest that is not refused, has room for every report
 abbrev pub ReportFits : Type 0
 ReportFits = (text : List ℕ) → length text ≤ 65268 → length (report text) ≤ 65536
+
+-- every line of a report is whole: its numbers fit their fields
+abbrev pub ReportWhole : Type 0
+ReportWhole = (text : List ℕ) → length text ≤ 65268 → anyOf (λ (l : List ℕ). not (eqb (length l) 84)) (reportLines (lines text)) ≡ false
 
 -- ---- fields
 

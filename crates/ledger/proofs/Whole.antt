@@ -13,7 +13,7 @@ use lib.Signed.{_≤ℤ_, leZ}
 use Rattle.numbers.specs.Tables.{firstOf}
 use Rattle.numbers.proofs.Tests.{by-test, holds, no-true, and-l, and-r, or-l, or-r, not-false}
 use Rattle.numbers.proofs.Tables.{first-skips}
-use Rattle.numbers.proofs.All.{All, all-head, all-tail, all-cons}
+use Rattle.numbers.proofs.All.{All, all-cons, all-append}
 use Rattle.numbers.proofs.Parts.{ints, parts-abs, test-le}
 use Rattle.adjust.specs.declared.Section.{Section}
 use Rattle.adjust.specs.Sections.{sectionFits, heightInRange}
@@ -108,17 +108,13 @@ runs-kept v w u i o k h e =
 
 -- ---- the end of a run
 
-all-append : (p : Section → Bool) (xs : List Section) (x : Section) → All p xs → p x ≡ true → All p (xs ++ (x ∷ []))
-all-append p [] x e k = all-cons p x [] k refl
-all-append p (y ∷ ys) x e k = all-cons p y (ys ++ (x ∷ [])) (all-head p y ys e) (all-append p ys x (all-tail p y ys e) k)
-
 -- a section more, one that fits and for which there is room
 section-kept : (v : Standing) (x : Section) → Kept v → isOpen (v .line .stage) ≡ true → length (v .sections) < 64 → sectionFits x ≡ true → narrow x ≡ true
     → Kept (withSection v x)
 section-kept v x i o room e n =
     record {
       few = rw (length-append (v .sections) (x ∷ [])) (omega arith);
-      fit = all-append sectionFits (v .sections) x (i .fit) e;
+      fit = all-append sectionFits (v .sections) (x ∷ []) (i .fit) (all-cons sectionFits x [] e refl);
       present = no-run-sized;
       waiting = tt;
       start = i .start;
@@ -126,7 +122,7 @@ section-kept v x i o room e n =
       closed = λ c. rw (length-append (v .sections) (x ∷ [])) (omega arith);
       placed = open-placed (withSection v x .line) (length (withSection v x .sections)) o refl;
       number = i .number;
-      narrow-sections = all-append narrow (v .sections) x (i .narrow-sections) n;
+      narrow-sections = all-append narrow (v .sections) (x ∷ []) (i .narrow-sections) (all-cons narrow x [] n refl);
     }
 
 number-size : (n : ℤ) → numberInRange n ≡ true → natAbs n ≤ 9999

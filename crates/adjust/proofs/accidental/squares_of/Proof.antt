@@ -15,7 +15,7 @@ use Rattle.adjust.specs.declared.Sections.{Sections}
 use Rattle.adjust.specs.declared.accidental.Total.{Total}
 use Rattle.adjust.specs.Sections.{sectionAt, sectionsOf, legFits, sectionFits}
 use Rattle.adjust.specs.Line.{accidental}
-use Rattle.adjust.specs.Bounds.{Leg}
+use Rattle.adjust.specs.Bounds.{LegBounds}
 use Rattle.adjust.proofs.Lists.{remaining, all-remain, next-remains, none-remain, leg-bounds}
 use Rattle.adjust.proofs.Bounded.{accidental-size}
 use Rattle.adjust.proofs.accidental.squares_of.Statement.{statement}
@@ -44,7 +44,7 @@ module _ {s : Sections} {k : ℕ} {t : Total} (here : k < s .count) (g : Going s
   fits-here : sectionFits (sectionAt s k) ≡ true
   fits-here = all-head sectionFits (sectionAt s k) (remaining s (k + 1)) (subst (All sectionFits) (next-remains s k here) (g .fit))
 
-  leg : Leg (sectionAt s k)
+  leg : LegBounds (sectionAt s k)
   leg = leg-bounds (sectionAt s k) (and-l (legFits (sectionAt s k)) (within (sectionAt s k .discrepancy) 100000) fits-here)
 
   discrepancy : natAbs (sectionAt s k .discrepancy) ≤ 100000
@@ -83,7 +83,7 @@ with-square-requires c κs =
     let x = sym (c .section-at .ensures) in (
       omega (arith, g .small, g .place),
       subst (λ (y : Section). natAbs (y .discrepancy) ≤ 100000) x (discrepancy here g),
-      subst Leg x (leg here g),
+      subst LegBounds x (leg here g),
     )
 
 add-k : tie.Need-add-k Inv-loop μ-loop

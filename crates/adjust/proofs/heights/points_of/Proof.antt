@@ -22,7 +22,7 @@ use Rattle.adjust.specs.declared.heights.Progress.{Progress}
 use Rattle.adjust.specs.Sections.{sectionAt, sectionsOf}
 use Rattle.adjust.specs.Line.{pointAfter, pointsAfter, points}
 use Rattle.adjust.specs.Frames.{frame, noPoint}
-use Rattle.adjust.specs.Bounds.{Leg, Framed, Reached}
+use Rattle.adjust.specs.Bounds.{LegBounds, Framed, Reached}
 use Rattle.adjust.proofs.Lists.{remaining, all-remain, next-remains, none-remain, Fit, fit-head, fit-tail}
 use Rattle.adjust.proofs.Bounded.{printed-size}
 use Rattle.adjust.proofs.heights.points_of.Statement.{statement}
@@ -66,7 +66,7 @@ abbrev moved : Known → Progress → Section → Progress
 moved f w x = record { height = w .height +ℤ x .height; point = pointAfter (frame f) (w .height) (w .point .distance) (w .point .height) x }
 
 module _ {f : Known} {number : ℤ} {s : Sections} {array : List Point} {w : Progress} {k : ℕ} (here : k < s .count) (few : s .count ≤ 64) (g : Going f number s array w k) where
-  leg : Leg (sectionAt s k)
+  leg : LegBounds (sectionAt s k)
   leg = fit-head (sectionAt s k) (remaining s (k + 1)) (subst Fit (next-remains s k here) (g .fit))
 
   reached-63 : Reached 63 w
@@ -119,7 +119,7 @@ next-point-requires c κs =
     let l = c .before .before in
     let s = l .before .before .before in
     let here = c .before .loop-test .taken in
-    (s .pre .0, reached-63 here (s .pre .1 .few) (l .loop .inv), subst Leg (sym (c .section-at .ensures)) (leg here (s .pre .1 .few) (l .loop .inv)))
+    (s .pre .0, reached-63 here (s .pre .1 .few) (l .loop .inv), subst LegBounds (sym (c .section-at .ensures)) (leg here (s .pre .1 .few) (l .loop .inv)))
 
 add-k : tie.Need-add-k Inv-loop μ-loop
 add-k c = omega arith

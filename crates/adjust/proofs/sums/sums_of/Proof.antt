@@ -10,7 +10,7 @@ use Rattle.adjust.specs.declared.Sections.{Sections}
 use Rattle.adjust.specs.declared.sums.Sums.{Sums}
 use Rattle.adjust.specs.Sections.{sectionAt, sectionsOf}
 use Rattle.adjust.specs.Line.{lineHeight, lineLength}
-use Rattle.adjust.specs.Bounds.{Leg, Summed}
+use Rattle.adjust.specs.Bounds.{LegBounds, Summed}
 use Rattle.adjust.proofs.Lists.{remaining, all-remain, next-remains, none-remain, Fit, fit-head, fit-tail}
 use Rattle.adjust.proofs.sums.sums_of.Statement.{statement}
 use Rattle.adjust.proofs.sums.sums_of.Tie as tie
@@ -36,7 +36,7 @@ first s f =
 abbrev added : Sums → Section → Sums
 added t x = record { height = t .height +ℤ x .height; distance = t .distance +ℤ x .distance }
 
-leg-here : {s : Sections} {k : ℕ} {t : Sums} → k < s .count → Going s k t → Leg (sectionAt s k)
+leg-here : {s : Sections} {k : ℕ} {t : Sums} → k < s .count → Going s k t → LegBounds (sectionAt s k)
 leg-here {s} {k} h g = fit-head (sectionAt s k) (remaining s (k + 1)) (subst Fit (next-remains s k h) (g .fit))
 
 next : {s : Sections} {k : ℕ} {t : Sums} → k < s .count → Going s k t → Going s (k + 1) (added t (sectionAt s k))
@@ -76,7 +76,7 @@ with-section-requires c κs =
     let g = l .loop .inv in
     let few = l .before .pre .few in (
       record { height = omega (arith, g .small .height, g .place); distance = omega (arith, g .small .distance, g .place) },
-      subst Leg (sym (c .section-at .ensures)) (leg-here (c .before .loop-test .taken) g),
+      subst LegBounds (sym (c .section-at .ensures)) (leg-here (c .before .loop-test .taken) g),
     )
 
 add-k : tie.Need-add-k Inv-loop μ-loop
