@@ -17,7 +17,7 @@ use Rattle.book.specs.declared.Stage.the-variants.{Fresh, Open, Closed}
 use Rattle.book.specs.Standing.{isClosed}
 use Rattle.ledger.specs.Plain.{Reading, freshReading, sectionOf, figuresOf}
 use Rattle.ledger.proofs.Traced.{points-length}
-use Rattle.fieldbook.specs.Text.{Refusal, lineNumbers, refusalsFrom, readingAfter}
+use Rattle.fieldbook.specs.Text.{Refusal, lineRefusals, refusalsFrom, readingAfter}
 use Rattle.fieldbook.specs.Report.{refLine, closedNumbers, pointNumbers, pointLine, openLine, closingLines, resultLines, reportOf, withoutHeading, reportLines, report}
 use Rattle.fieldbook.specs.Fits.{ReportFits}
 use Rattle.fieldbook.proofs.Size.{stageLines, waitingLines, least, lines-count}
@@ -108,8 +108,8 @@ lines-fit : (ls : List (List ℕ)) → length ls ≤ 777 → length (joined (rep
 lines-fit [] h = bytes (record { line = 1; number = 1 } ∷ []) freshReading (omega arith)
 lines-fit (l ∷ ls) h = go (same l heading)
   where
-    go : (b : Bool) → length (joined (cond b (reportOf (refusalsFrom 2 (lineNumbers freshReading ls)) (readingAfter freshReading ls)) withoutHeading)) ≤ 65536
-    go true = bytes (refusalsFrom 2 (lineNumbers freshReading ls)) (readingAfter freshReading ls) (omega (arith, lines-count 2 freshReading ls))
+    go : (b : Bool) → length (joined (cond b (reportOf (refusalsFrom 2 (lineRefusals freshReading ls)) (readingAfter freshReading ls)) withoutHeading)) ≤ 65536
+    go true = bytes (refusalsFrom 2 (lineRefusals freshReading ls)) (readingAfter freshReading ls) (omega (arith, lines-count 2 freshReading ls))
     go false = bytes (record { line = 1; number = 1 } ∷ []) freshReading (omega arith)
 
 pub report-fits : ReportFits

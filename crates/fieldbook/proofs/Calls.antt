@@ -18,7 +18,7 @@ use Rattle.book.specs.Standing.{isClosed}
 use Rattle.ledger.specs.Plain.{Reading, freshReading, after, figuresOf}
 use Rattle.ledger.proofs.Drops.{after-append}
 use Rattle.ledger.proofs.Every.{every-list, same-figures}
-use Rattle.fieldbook.specs.Text.{callsIn, lineNext, lineNumbers, readingAfter, callsOf, refusalsFrom}
+use Rattle.fieldbook.specs.Text.{callsIn, lineNext, lineRefusals, readingAfter, callsOf, refusalsFrom}
 use Rattle.fieldbook.specs.Report.{refLine, closingLines, openLine, reportOf, withoutHeading, reportLines, report, bufferAfter}
 use Rattle.fieldbook.specs.Claims.{EveryText, EveryReport}
 
@@ -55,7 +55,7 @@ unfolding bufferAfter report
 every-report text buffer taken ls e shut =
     let p = every-text ls shut in
     let r : Reading = readingAfter freshReading ls in
-    let refusals = refusalsFrom 2 (lineNumbers freshReading ls) in
+    let refusals = refusalsFrom 2 (lineRefusals freshReading ls) in
     record {
       closing = p .closing;
       bytes =

@@ -2,10 +2,10 @@
 use mathlib.Core.Path.{_≡_, refl, sym, ap, _∙_}
 use mathlib.Core.Bool.{Bool, true, false, cond}
 use mathlib.Core.List.{List, [], _∷_, _++_, append-nil, append-assoc}
-use Prim.Native.Nat.{ℕ, zero, suc, _+_, _*_, _/_, _≤_, _<_}
+use Prim.Native.Nat.{ℕ, zero, suc, _+_, _*_, _≤_, _<_}
 use native.Mathlib.Omega.{arith}
 use lib.Dec.{eqb}
-use lib.ListN.{length, getD, set, take, drop, length-append}
+use lib.ListN.{length, set, drop, length-append}
 use Rattle.numbers.specs.Whole.{filled}
 use Rattle.numbers.proofs.Filled.{filled-set}
 use Rattle.columns.specs.declared.reader.Kind.{Kind}
@@ -22,10 +22,9 @@ use Rattle.ledger.specs.Plain.{Reading, freshReading, standing}
 use Rattle.ledger.proofs.Whole.{Kept, next-kept, fresh-kept}
 use Rattle.ledger.proofs.Again.{bookOf, fresh-holds}
 use Rattle.ledger.proofs.Traced as Traced
-use Rattle.runner.specs.declared.Step.{Step}
 use Rattle.fieldbook.specs.declared.reading.State.{State}
-use Rattle.fieldbook.specs.Text.{Refusal, callOf, lineRefusal, lineNext, lineNumbers, readingAfter, refusalsFrom}
-use Rattle.fieldbook.specs.State.{lineStep, freshState, withHeading, withRecord, stateWith, lineAt, lineCount, stateAfter}
+use Rattle.fieldbook.specs.Text.{Refusal, callOf, lineRefusal, lineNext, lineRefusals, readingAfter, refusalsFrom}
+use Rattle.fieldbook.specs.State.{lineStep, freshState, stateWith, lineCount, stateAfter}
 use Rattle.fieldbook.proofs.States.{first-line, no-heading, record-line}
 
 -- ---- the lines of a text one after the other
@@ -58,7 +57,7 @@ by-lines t = sym (from-line t (lineCount (length t)) 0 (omega arith))
 
 -- the state whose book holds the reading r, and whose lines after the first have the numbers ns
 abbrev pub read : Reading → List ℕ → State
-read r ns = record { book = bookOf r; numbers = filled 0 778 (0 ∷ 0 ∷ ns) }
+read r ns = record { book = bookOf r; refusals = filled 0 778 (0 ∷ 0 ∷ ns) }
 
 module _ (r : Reading) (k : Kept (standing r)) (l : Line) where
   abbrev of-kind : Kind → Line
@@ -86,11 +85,11 @@ one-line : (r : Reading) → Kept (standing r) → (ns : List ℕ) (l : List ℕ
 one-line r k ns l h =
     let step = line-step r k (lineIn l) in
     record-line (read r ns) l (suc (suc (length ns))) (not-first (length ns)) refl
-    ∙ (λ i. record { book = step i .book; numbers = set (filled 0 778 (0 ∷ 0 ∷ ns)) (suc (suc (length ns))) (step i .number) })
-    ∙ (λ i. record { book = bookOf (lineNext r (lineIn l)); numbers = filled-set 0 778 (0 ∷ 0 ∷ ns) (lineRefusal r (lineIn l)) (omega arith) i })
+    ∙ (λ i. record { book = step i .book; refusals = set (filled 0 778 (0 ∷ 0 ∷ ns)) (suc (suc (length ns))) (step i .number) })
+    ∙ (λ i. record { book = bookOf (lineNext r (lineIn l)); refusals = filled-set 0 778 (0 ∷ 0 ∷ ns) (lineRefusal r (lineIn l)) (omega arith) i })
 
 pub all-lines : (r : Reading) → Kept (standing r) → (ns : List ℕ) (ls : List (List ℕ)) → length ns + length ls ≤ 776
-    → statesFrom (read r ns) (suc (suc (length ns))) ls ≡ read (readingAfter r ls) (ns ++ lineNumbers r ls)
+    → statesFrom (read r ns) (suc (suc (length ns))) ls ≡ read (readingAfter r ls) (ns ++ lineRefusals r ls)
 all-lines r k ns [] h = ap (read r) (sym (append-nil ns))
 all-lines r k ns (l ∷ ls) h =
     let n = lineRefusal r (lineIn l) in
@@ -100,13 +99,13 @@ all-lines r k ns (l ∷ ls) h =
     ap (λ (x : State). statesFrom x (suc (suc (suc (length ns)))) ls) (one-line r k ns l (omega arith))
     ∙ ap (λ (m : ℕ). statesFrom (read s more) (suc (suc m)) ls) (sym long)
     ∙ all-lines s (line-kept r k (lineIn l)) more ls (omega (arith, long))
-    ∙ ap (read (readingAfter s ls)) (append-assoc ns (n ∷ []) (lineNumbers s ls))
+    ∙ ap (read (readingAfter s ls)) (append-assoc ns (n ∷ []) (lineRefusals s ls))
 
 -- ---- without the heading
 
 -- the state that reads nothing more
 abbrev pub unread : State
-unread = record { book = freshBook; numbers = filled 0 778 (0 ∷ 1 ∷ []) }
+unread = record { book = freshBook; refusals = filled 0 778 (0 ∷ 1 ∷ []) }
 
 no-lines : (n : ℕ) (ls : List (List ℕ)) → statesFrom unread (suc (suc n)) ls ≡ unread
 no-lines n [] = refl
@@ -117,16 +116,16 @@ no-lines n (l ∷ ls) =
 
 abbrev pub stateOf : List (List ℕ) → State
 stateOf [] = unread
-stateOf (l ∷ ls) = cond (same l heading) (read (readingAfter freshReading ls) (lineNumbers freshReading ls)) unread
+stateOf (l ∷ ls) = cond (same l heading) (read (readingAfter freshReading ls) (lineRefusals freshReading ls)) unread
 
 lines-state : (ls : List (List ℕ)) → length ls ≤ 777 → statesFrom freshState 1 ls ≡ stateOf ls
 lines-state [] h = refl
 lines-state (l ∷ ls) h =
     ap (λ (x : State). statesFrom x 2 ls) (first-line freshState l 1 refl) ∙ go (same l heading)
   where
-    go : (b : Bool) → statesFrom (record { book = freshBook; numbers = set (filled 0 778 (0 ∷ 1 ∷ [])) 1 (cond b 0 1) }) 2 ls
-        ≡ cond b (read (readingAfter freshReading ls) (lineNumbers freshReading ls)) unread
-    go true = ap (λ (b : Book). statesFrom (record { book = b; numbers = filled 0 778 (0 ∷ 0 ∷ []) }) 2 ls) fresh-holds ∙ all-lines freshReading fresh-kept [] ls (omega arith)
+    go : (b : Bool) → statesFrom (record { book = freshBook; refusals = set (filled 0 778 (0 ∷ 1 ∷ [])) 1 (cond b 0 1) }) 2 ls
+        ≡ cond b (read (readingAfter freshReading ls) (lineRefusals freshReading ls)) unread
+    go true = ap (λ (b : Book). statesFrom (record { book = b; refusals = filled 0 778 (0 ∷ 0 ∷ []) }) 2 ls) fresh-holds ∙ all-lines freshReading fresh-kept [] ls (omega arith)
     go false = no-lines 0 ls
 
 pub text-state : (t : List ℕ) → length (lines t) ≤ 777 → stateAfter t (lineCount (length t)) ≡ stateOf (lines t)

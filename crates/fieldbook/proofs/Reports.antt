@@ -1,20 +1,19 @@
 -- The report of the reader's state is the report of the text.
 use mathlib.Core.Path.{_≡_, refl, sym, ap, subst, _∙_}
-use mathlib.Core.Bool.{Bool, true, false, not, cond}
+use mathlib.Core.Bool.{Bool, true, not, cond}
 use mathlib.Core.List.{List, [], _∷_, _++_, map}
 use Prim.Native.Nat.{ℕ, suc, _+_, _≤_, _<_}
 use native.Mathlib.Omega.{arith}
 use borrow.Author.Tests.{lt-ltb, le-ltb}
 use lib.Dec.{ltb}
-use lib.ListN.{length, take, length-map}
-use lib.IntN.{pos, _*ℤ_}
-use Rattle.numbers.specs.Whole.{filled, anyOf}
+use lib.ListN.{length, length-map}
+use Rattle.numbers.specs.Whole.{anyOf}
 use Rattle.numbers.proofs.Tests.{by-test, is-true}
 use Rattle.numbers.proofs.Filled.{filled-length}
 use Rattle.adjust.specs.declared.Point.{Point}
 use Rattle.adjust.specs.declared.Adjusted.{Adjusted}
 use Rattle.adjust.specs.Line.{Closing}
-use Rattle.adjust.specs.Frames.{noPoint, adjustedOf}
+use Rattle.adjust.specs.Frames.{noPoint}
 use Rattle.columns.specs.Buffers.{putAt}
 use Rattle.columns.specs.Decimals.{same}
 use Rattle.columns.specs.Lines.{heading, title}
@@ -32,11 +31,11 @@ use Rattle.ledger.proofs.Whole.{Kept, fresh-kept, calls-kept}
 use Rattle.ledger.proofs.Again.{bookOf, fresh-holds, figures-again}
 use Rattle.ledger.proofs.Traced.{points-back}
 use Rattle.fieldbook.specs.declared.reading.State.{State}
-use Rattle.fieldbook.specs.Text.{Refusal, lineNext, lineNumbers, readingAfter, refusalsFrom, callsOf}
+use Rattle.fieldbook.specs.Text.{lineNext, lineRefusals, readingAfter, refusalsFrom, callsOf}
 use Rattle.fieldbook.specs.Report.{refLine, openLine, closingLines, resultLines, reportOf, withoutHeading, reportLines, report, textRefusal, bufferAfter, reducedAs, reducedOf, printedFor, printedInto, printedLength}
 use Rattle.fieldbook.specs.Fits.{closedFits, pointFits}
 use Rattle.fieldbook.specs.State.{lineCount, stateAfter}
-use Rattle.fieldbook.specs.Printed.{refusalBytes, closingIn, bookLines, stateLines, ClosingFits, Printable}
+use Rattle.fieldbook.specs.Printed.{refusalBytes, closingIn, bookLines, stateLines, Printable}
 use Rattle.fieldbook.proofs.Bytes.{text-lines}
 use Rattle.fieldbook.proofs.Calls.{reading-calls}
 use Rattle.fieldbook.proofs.Widths.{figures-fit}
@@ -92,7 +91,7 @@ calls-printable calls =
 
 -- ---- a text
 
-pub numbers-long : (r : Reading) (ls : List (List ℕ)) → length (lineNumbers r ls) ≡ length ls
+pub numbers-long : (r : Reading) (ls : List (List ℕ)) → length (lineRefusals r ls) ≡ length ls
 numbers-long r [] = refl
 numbers-long r (l ∷ ls) = ap suc (numbers-long (lineNext r (lineIn l)) ls)
 
@@ -103,10 +102,10 @@ module _ (ls : List (List ℕ)) where
   last-kept : Kept (standing last)
   last-kept = subst (λ (r : Reading). Kept (standing r)) (sym (reading-calls freshReading ls)) (calls-kept (callsOf ls))
 
-  read-lines : length ls ≤ 776 → stateLines (read last (lineNumbers freshReading ls)) ≡ reportOf (refusalsFrom 2 (lineNumbers freshReading ls)) last
+  read-lines : length ls ≤ 776 → stateLines (read last (lineRefusals freshReading ls)) ≡ reportOf (refusalsFrom 2 (lineRefusals freshReading ls)) last
   unfolding stateLines refusalsFrom
   read-lines h =
-      λ i. title ∷ (map refLine (refusals-filled 2 776 (lineNumbers freshReading ls) (omega (arith, numbers-long freshReading ls)) i) ++ book-lines last last-kept i)
+      λ i. title ∷ (map refLine (refusals-filled 2 776 (lineRefusals freshReading ls) (omega (arith, numbers-long freshReading ls)) i) ++ book-lines last last-kept i)
 
   read-printable : Printable (bookOf last)
   read-printable = subst (λ (r : Reading). Printable (bookOf r)) (sym (reading-calls freshReading ls)) (calls-printable (callsOf ls))
@@ -124,13 +123,13 @@ state-lines : (ls : List (List ℕ)) → length ls ≤ 777 → stateLines (state
 state-lines [] h = unread-lines
 state-lines (l ∷ ls) h =
     by-test (same l heading)
-    (λ b. stateLines (cond b (read (last ls) (lineNumbers freshReading ls)) unread) ≡ cond b (reportOf (refusalsFrom 2 (lineNumbers freshReading ls)) (last ls)) withoutHeading)
+    (λ b. stateLines (cond b (read (last ls) (lineRefusals freshReading ls)) unread) ≡ cond b (reportOf (refusalsFrom 2 (lineRefusals freshReading ls)) (last ls)) withoutHeading)
     (λ b. read-lines ls (omega arith)) (λ b. unread-lines)
 
 state-printable : (ls : List (List ℕ)) → Printable (stateOf ls .book)
 state-printable [] = fresh-printable
 state-printable (l ∷ ls) =
-    by-test (same l heading) (λ b. Printable (cond b (read (last ls) (lineNumbers freshReading ls)) unread .book)) (λ b. read-printable ls) (λ b. fresh-printable)
+    by-test (same l heading) (λ b. Printable (cond b (read (last ls) (lineRefusals freshReading ls)) unread .book)) (λ b. read-printable ls) (λ b. fresh-printable)
 
 module _ (t : List ℕ) (h : length t ≤ 65268) where
   pub few-lines : length (lines t) ≤ 777

@@ -23,7 +23,7 @@ use Rattle.book.specs.Rules.{Call, open-line, station, end-run, drop-run, drop-
 use Rattle.ledger.specs.Plain.{Reading, Awaited, refusal, taken, runEnded, standing}
 use Rattle.ledger.proofs.Lowest.{fails}
 use Rattle.ledger.proofs.Follows.{recast}
-use Rattle.fieldbook.specs.Text.{Refusal, callOf, lineRefusal, lineNext, lineNumbers, refusalsFrom, readingAfter}
+use Rattle.fieldbook.specs.Text.{Refusal, callOf, lineRefusal, lineNext, lineRefusals, refusalsFrom, readingAfter}
 
 -- ---- so many lines at least a reading has taken
 
@@ -89,9 +89,9 @@ line-counts k r l = go (l .kind)
         (λ b. omega (arith, taken-least r c (eqb→eq (refusal r c) 0 b))) (λ b. omega arith)
     go (Refused n) = by-test (eqb n 0) (λ b. length (cond b [] (some-refusal n)) + least r ≤ 1 + least r) (λ b. omega arith) (λ b. omega arith)
 
-pub lines-count : (k : ℕ) (r : Reading) (ls : List (List ℕ)) → length (refusalsFrom k (lineNumbers r ls)) + least (readingAfter r ls) ≤ length ls + least r
+pub lines-count : (k : ℕ) (r : Reading) (ls : List (List ℕ)) → length (refusalsFrom k (lineRefusals r ls)) + least (readingAfter r ls) ≤ length ls + least r
 unfolding refusalsFrom
 lines-count k r [] = omega arith
 lines-count k r (l ∷ ls) =
     let s : Reading = lineNext r (lineIn l) in
-    omega (arith, line-counts k r (lineIn l), lines-count (suc k) s ls, length-append (refusalOf k (lineRefusal r (lineIn l))) (refusalsFrom (suc k) (lineNumbers s ls)))
+    omega (arith, line-counts k r (lineIn l), lines-count (suc k) s ls, length-append (refusalOf k (lineRefusal r (lineIn l))) (refusalsFrom (suc k) (lineRefusals s ls)))

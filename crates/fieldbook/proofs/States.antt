@@ -2,7 +2,7 @@
 use mathlib.Core.Path.{_≡_, refl, sym, ap, _∙_}
 use mathlib.Core.Bool.{Bool, cond}
 use mathlib.Core.List.{List, []}
-use Prim.Native.Nat.{ℕ, zero, suc, _+_, _-_, _*_, _/_, _≤_, _<_}
+use Prim.Native.Nat.{ℕ, zero, suc, _+_, _-_, _*_, _<_}
 use native.Mathlib.Numerals.{add-one}
 use native.Mathlib.Omega.{arith}
 use borrow.Author.Tests.{eq-eqb, ne-eqb}
@@ -17,12 +17,12 @@ use Rattle.fieldbook.specs.State.{freshState, withHeading, withRecord, s
 -- ---- one line
 
 module _ (s : State) (l : List ℕ) where
-  pub heading-read : (b : Bool) → b ≡ same l heading → record { book = s .book; numbers = set (s .numbers) 1 (cond b 0 1) } ≡ withHeading s l
-  heading-read b e = λ i. record { book = s .book; numbers = set (s .numbers) 1 (cond (e i) 0 1) }
+  pub heading-read : (b : Bool) → b ≡ same l heading → record { book = s .book; refusals = set (s .refusals) 1 (cond b 0 1) } ≡ withHeading s l
+  heading-read b e = λ i. record { book = s .book; refusals = set (s .refusals) 1 (cond (e i) 0 1) }
 
   module _ (k : ℕ) where
     abbrev other : State
-    other = cond (eqb (getD (s .numbers) 1 0) 0) (withRecord s l k) s
+    other = cond (eqb (getD (s .refusals) 1 0) 0) (withRecord s l k) s
 
     pub first-line : k ≡ 1 → stateWith s l k ≡ withHeading s l
     unfolding stateWith
@@ -32,11 +32,11 @@ module _ (s : State) (l : List ℕ) where
     unfolding stateWith
     later-line n = ap (λ (b : Bool). cond b (withHeading s l) other) (ne-eqb k 1 n)
 
-    pub no-heading : (k ≡ 1 → ⊥) → (getD (s .numbers) 1 0 ≡ 0 → ⊥) → stateWith s l k ≡ s
-    no-heading n h = later-line n ∙ ap (λ (b : Bool). cond b (withRecord s l k) s) (ne-eqb (getD (s .numbers) 1 0) 0 h)
+    pub no-heading : (k ≡ 1 → ⊥) → (getD (s .refusals) 1 0 ≡ 0 → ⊥) → stateWith s l k ≡ s
+    no-heading n h = later-line n ∙ ap (λ (b : Bool). cond b (withRecord s l k) s) (ne-eqb (getD (s .refusals) 1 0) 0 h)
 
-    pub record-line : (k ≡ 1 → ⊥) → getD (s .numbers) 1 0 ≡ 0 → stateWith s l k ≡ withRecord s l k
-    record-line n h = later-line n ∙ ap (λ (b : Bool). cond b (withRecord s l k) s) (eq-eqb (getD (s .numbers) 1 0) 0 h)
+    pub record-line : (k ≡ 1 → ⊥) → getD (s .refusals) 1 0 ≡ 0 → stateWith s l k ≡ withRecord s l k
+    record-line n h = later-line n ∙ ap (λ (b : Bool). cond b (withRecord s l k) s) (eq-eqb (getD (s .refusals) 1 0) 0 h)
 
 -- ---- the lines of a text
 

@@ -1,5 +1,5 @@
 -- Every line of a report has 84 bytes: no number is too large for its field.
-use mathlib.Core.Path.{_≡_, refl, sym, ap, subst, _∙_}
+use mathlib.Core.Path.{_≡_, refl, sym, subst}
 use mathlib.Core.Bool.{Bool, true, false, cond, _&&_}
 use mathlib.Core.List.{List, [], _∷_, _++_, map}
 use Prim.Native.Nat.{ℕ, suc, _+_, _*_, _≤_}
@@ -7,11 +7,11 @@ use native.Mathlib.Omega.{arith}
 use borrow.Author.Tests.{eq-eqb, leb-true}
 use lib.Dec.{leb, eqb}
 use lib.ListN.{length, take, drop, length-map}
-use lib.IntN.{ℤ, pos}
+use lib.IntN.{pos}
 use Rattle.numbers.specs.Tables.{firstOf}
 use Rattle.numbers.proofs.Tests.{by-test, is-true, and-l, and-r}
 use Rattle.numbers.proofs.All.{All, all-head, all-tail, all-cons, all-append}
-use Rattle.ledger.proofs.Whole.{Kept, calls-kept}
+use Rattle.ledger.proofs.Whole.{calls-kept}
 use Rattle.adjust.specs.declared.Point.{Point}
 use Rattle.adjust.proofs.Holding.{map-append}
 use Rattle.columns.specs.declared.reader.Tag.{Tag}
@@ -27,13 +27,13 @@ use Rattle.book.specs.Standing.{Standing, isClosed}
 use Rattle.book.specs.Rules as Rules
 use Rattle.book.specs.Rules.{Call, open-line, station, end-run, drop-run, drop-section, close-line, inputTests, stateTests}
 use Rattle.ledger.specs.Plain.{Reading, freshReading, after, standing, sectionOf, figuresOf}
-use Rattle.fieldbook.specs.Text.{Refusal, callOf, lineRefusal, lineNext, lineNumbers, readingAfter, callsOf, refusalsFrom}
+use Rattle.fieldbook.specs.Text.{Refusal, callOf, lineRefusal, lineNext, lineRefusals, readingAfter, callsOf, refusalsFrom}
 use Rattle.fieldbook.specs.Report.{refLine, closedNumbers, closedLine, pointLine, openLine, closingLines, resultLines, reportOf, withoutHeading, reportLines}
 use Rattle.fieldbook.specs.Fits.{pointFits, ReportWhole}
 use Rattle.fieldbook.proofs.Calls.{reading-calls}
 use Rattle.fieldbook.proofs.Widths.{figures-fit}
 use Rattle.fieldbook.proofs.Written.{refusal-fits, open-long, point-long}
-use Rattle.fieldbook.proofs.Reports.{closed-stage, numbers-long, few-lines}
+use Rattle.fieldbook.proofs.Reports.{closed-stage, few-lines}
 
 -- ---- refusal numbers are at most 36
 
@@ -107,14 +107,14 @@ refusal-whole k n h g =
     (λ b. all-cons whole (refLine (record { line = k; number = n })) [] (is-whole (refLine (record { line = k; number = n }))
     (length-line (82 ∷ 69 ∷ 70 ∷ []) (pos k ∷ pos n ∷ []) false (refusal-fits k n h (omega arith)))) refl)
 
-refusals-whole : (k : ℕ) (r : Reading) (ls : List (List ℕ)) → k + length ls ≤ 778 → AllWhole (map refLine (refusalsFrom k (lineNumbers r ls)))
+refusals-whole : (k : ℕ) (r : Reading) (ls : List (List ℕ)) → k + length ls ≤ 778 → AllWhole (map refLine (refusalsFrom k (lineRefusals r ls)))
 unfolding refusalsFrom
 refusals-whole k r [] h = refl
 refusals-whole k r (l ∷ ls) h =
     let n = lineRefusal r (lineIn l) in
     let s = lineNext r (lineIn l) in
     let here : List Refusal = cond (eqb n 0) [] (record { line = k; number = n } ∷ []) in
-    let later = refusalsFrom (suc k) (lineNumbers s ls) in
+    let later = refusalsFrom (suc k) (lineRefusals s ls) in
     subst AllWhole (sym (map-append refLine here later))
     (all-append whole (map refLine here) (map refLine later) (refusal-whole k n (omega arith) (refusal-small r l)) (refusals-whole (suc k) s ls (omega arith)))
 
@@ -151,7 +151,7 @@ without = report-of (record { line = 1; number = 1 } ∷ []) freshReading (refus
 lines-whole : (ls : List (List ℕ)) → length ls ≤ 777 → AllWhole (reportLines ls)
 lines-whole [] h = without
 lines-whole (l ∷ ls) h =
-    let refusals = refusalsFrom 2 (lineNumbers freshReading ls) in
+    let refusals = refusalsFrom 2 (lineRefusals freshReading ls) in
     let r : Reading = readingAfter freshReading ls in
     by-test (same l heading) (λ b. AllWhole (cond b (reportOf refusals r) withoutHeading))
     (λ b. report-of refusals r (refusals-whole 2 freshReading ls (omega arith))

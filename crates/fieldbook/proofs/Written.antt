@@ -193,14 +193,14 @@ open-long n h = length-line (79 ∷ 80 ∷ 78 ∷ []) (pos n ∷ []) false (open
 
 module _ (s : State) where
   abbrev refusals : List ℕ
-  refusals = joined (refusalLines 0 (s .numbers))
+  refusals = joined (refusalLines 0 (s .refusals))
 
   abbrev stands : List ℕ
   stands = joined (bookLines (s .book))
 
   pub state-bytes : joined (stateLines s) ≡ title ++ (refusals ++ stands)
   unfolding stateLines joined
-  state-bytes = ap (λ (x : List ℕ). title ++ x) (joined-append (refusalLines 0 (s .numbers)) (bookLines (s .book)))
+  state-bytes = ap (λ (x : List ℕ). title ++ x) (joined-append (refusalLines 0 (s .refusals)) (bookLines (s .book)))
 
   pub state-long : length (joined (stateLines s)) ≡ 84 + length refusals + length stands
   state-long =

@@ -8,7 +8,7 @@ use Rattle.ledger.specs.Claims.{ClosedOnce}
 use Rattle.columns.specs.Buffers.{putAt}
 use Rattle.columns.specs.Lines.{heading, title}
 use Rattle.columns.specs.Texts.{lines, joined}
-use Rattle.fieldbook.specs.Text.{lineNumbers, readingAfter, callsOf, refusalsFrom}
+use Rattle.fieldbook.specs.Text.{lineRefusals, readingAfter, callsOf, refusalsFrom}
 use Rattle.fieldbook.specs.Report.{refLine, closingLines, resultLines, textRefusal, bufferAfter}
 
 -- the lines' calls closed the line once and soundly, and that closing is what is printed
@@ -26,7 +26,7 @@ EveryText = (ls : List (List ℕ)) → readingAfter freshReading ls .stage ≡ C
 pub record Reported (text buffer : List ℕ) (ls : List (List ℕ)) : Type 0 where
   pub closing : ClosedOnce (callsOf ls) (closings freshReading (callsOf ls))
   pub bytes : bufferAfter text buffer
-      ≡ putAt buffer 0 (joined (title ∷ (map refLine (refusalsFrom 2 (lineNumbers freshReading ls)) ++ closingLines (closing .gave))))
+      ≡ putAt buffer 0 (joined (title ∷ (map refLine (refusalsFrom 2 (lineRefusals freshReading ls)) ++ closingLines (closing .gave))))
 
 -- whatever the text and the buffer, if the call is taken and the lines after the heading leave the line closed
 abbrev pub EveryReport : Type 0

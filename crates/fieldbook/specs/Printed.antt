@@ -10,13 +10,12 @@ use Rattle.adjust.specs.declared.Point.{Point}
 use Rattle.adjust.specs.declared.Adjusted.{Adjusted}
 use Rattle.adjust.specs.Line.{Closing}
 use Rattle.columns.specs.Lines.{title}
-use Rattle.columns.specs.Texts.{joined}
 use Rattle.book.specs.declared.Book.{Book}
 use Rattle.book.specs.Standing.{isClosed}
 use Rattle.book.specs.Calls.{figuresOf}
 use Rattle.fieldbook.specs.declared.reading.State.{State}
-use Rattle.fieldbook.specs.Text.{Refusal, refusalsFrom}
-use Rattle.fieldbook.specs.Report.{refLine, openLine, pointLine, closingLines}
+use Rattle.fieldbook.specs.Text.{refusalsFrom}
+use Rattle.fieldbook.specs.Report.{refLine, openLine, closingLines}
 use Rattle.fieldbook.specs.Fits.{closedFits, pointFits}
 
 -- of line k's number: nothing where the line was taken
@@ -35,7 +34,7 @@ abbrev pub bookLines : Book → List (List ℕ)
 bookLines b = cond (isClosed (b .line .stage)) (closingLines (closingIn (figuresOf b))) (openLine (b .sections .count) ∷ [])
 
 unfoldable pub stateLines : State → List (List ℕ)
-stateLines s = title ∷ (refusalLines 0 (s .numbers) ++ bookLines (s .book))
+stateLines s = title ∷ (refusalLines 0 (s .refusals) ++ bookLines (s .book))
 
 -- ---- what fits
 

@@ -17,7 +17,7 @@ use Rattle.book.specs.Standing.{isClosed}
 use Rattle.ledger.specs.Plain.{Reading, freshReading, figuresOf}
 use Rattle.fieldbook.specs.declared.Reduced.{Reduced}
 use Rattle.fieldbook.specs.declared.Reduced.the-variants.{Written, Refused}
-use Rattle.fieldbook.specs.Text.{Refusal, lineNumbers, refusalsFrom, readingAfter}
+use Rattle.fieldbook.specs.Text.{Refusal, lineRefusals, refusalsFrom, readingAfter}
 
 -- ---- its lines
 
@@ -63,7 +63,7 @@ withoutHeading = reportOf (record { line = 1; number = 1 } ∷ []) freshReading
 
 abbrev pub reportLines : List (List ℕ) → List (List ℕ)
 reportLines [] = withoutHeading
-reportLines (l ∷ ls) = cond (same l heading) (reportOf (refusalsFrom 2 (lineNumbers freshReading ls)) (readingAfter freshReading ls)) withoutHeading
+reportLines (l ∷ ls) = cond (same l heading) (reportOf (refusalsFrom 2 (lineRefusals freshReading ls)) (readingAfter freshReading ls)) withoutHeading
 
 unfoldable pub report : List ℕ → List ℕ
 report text = joined (reportLines (lines text))

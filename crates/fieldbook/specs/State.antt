@@ -1,9 +1,9 @@
 -- What the reader keeps by value from line to line, and the line that it reads next.
-use mathlib.Core.Bool.{Bool, cond}
+use mathlib.Core.Bool.{cond}
 use mathlib.Core.List.{List, [], _∷_}
-use Prim.Native.Nat.{ℕ, zero, suc, _+_, _-_, _*_, _/_, min}
+use Prim.Native.Nat.{ℕ, zero, suc, _+_, _*_, _/_, min}
 use lib.Dec.{eqb}
-use lib.ListN.{length, getD, set, take, drop, replicate}
+use lib.ListN.{getD, set, take, drop}
 use Rattle.numbers.specs.Whole.{filled}
 use Rattle.columns.specs.declared.reader.Kind.{Kind}
 use Rattle.columns.specs.declared.reader.Kind.the-variants.{Record, Refused}
@@ -30,19 +30,19 @@ lineStep b l = go (l .kind)
 
 -- line 1 counts as refused until it is read
 abbrev pub freshState : State
-freshState = record { book = freshBook; numbers = filled 0 778 (0 ∷ 1 ∷ []) }
+freshState = record { book = freshBook; refusals = filled 0 778 (0 ∷ 1 ∷ []) }
 
 abbrev pub withHeading : State → List ℕ → State
-withHeading s l = record { book = s .book; numbers = set (s .numbers) 1 (cond (same l heading) 0 1) }
+withHeading s l = record { book = s .book; refusals = set (s .refusals) 1 (cond (same l heading) 0 1) }
 
 abbrev pub withRecord : State → List ℕ → ℕ → State
 withRecord s l k =
     let x : Step = lineStep (s .book) (lineIn l) in
-    record { book = x .book; numbers = set (s .numbers) k (x .number) }
+    record { book = x .book; refusals = set (s .refusals) k (x .number) }
 
 -- line k, counted from 1; without the heading no other line is read
 unfoldable pub stateWith : State → List ℕ → ℕ → State
-stateWith s l k = cond (eqb k 1) (withHeading s l) (cond (eqb (getD (s .numbers) 1 0) 0) (withRecord s l k) s)
+stateWith s l k = cond (eqb k 1) (withHeading s l) (cond (eqb (getD (s .refusals) 1 0) 0) (withRecord s l k) s)
 
 -- ---- a text
 

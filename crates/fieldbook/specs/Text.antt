@@ -55,9 +55,9 @@ lineNext r l = go (l .kind)
 -- ---- the lines after the first
 
 -- the refusal number of each line
-abbrev pub lineNumbers : Reading → List (List ℕ) → List ℕ
-lineNumbers r [] = []
-lineNumbers r (l ∷ ls) = lineRefusal r (lineIn l) ∷ lineNumbers (lineNext r (lineIn l)) ls
+abbrev pub lineRefusals : Reading → List (List ℕ) → List ℕ
+lineRefusals r [] = []
+lineRefusals r (l ∷ ls) = lineRefusal r (lineIn l) ∷ lineRefusals (lineNext r (lineIn l)) ls
 
 abbrev pub readingAfter : Reading → List (List ℕ) → Reading
 readingAfter r [] = r

@@ -126,8 +126,8 @@ pub(crate) fn put_state(buf: &mut [u8], s: State) -> usize
     ensures { λ r. ⌜ now (buf .exit) ≡ putAt (now (buf .entry)) 0 (joined (stateLines s)) ⌝ }
 {
     let book = s.book;
-    let numbers = s.numbers;
+    let refusals = s.refusals;
     put_title(buf, 0);
-    let at = put_refusals(buf, 84, numbers);
+    let at = put_refusals(buf, 84, refusals);
     put_book(buf, at, book)
 }

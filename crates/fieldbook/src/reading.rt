@@ -16,7 +16,7 @@ use runner::run_call;
 // What the lines read so far leave: the book, and each line's refusal number in the line's place, 0 where it was taken.
 pub struct State {
     pub book: Book,
-    pub numbers: [u8; 778],
+    pub refusals: [u8; 778],
 }
 
 // The kind of a tag's calls in a list of numbers.
@@ -67,23 +67,23 @@ fn step_line(b: Book, line: Line) -> Step
 pub(crate) fn fresh_state() -> State
     ensures { λ r. ⌜ r ≡ freshState ⌝ }
 {
-    let mut numbers = [0u8; 778];
-    numbers[1] = 1;
+    let mut refusals = [0u8; 778];
+    refusals[1] = 1;
     let book = book::fresh();
-    State { book, numbers }
+    State { book, refusals }
 }
 
 fn take_heading(s: State, line: &[u8]) -> State
     ensures { λ r. ⌜ r ≡ withHeading s (now (line .entry)) ⌝ }
 {
     let book = s.book;
-    let mut numbers = s.numbers;
+    let mut refusals = s.refusals;
     if is_heading(line) {
-        numbers[1] = 0;
+        refusals[1] = 0;
     } else {
-        numbers[1] = 1;
+        refusals[1] = 1;
     }
-    State { book, numbers }
+    State { book, refusals }
 }
 
 fn take_record(s: State, line: &[u8], number: usize) -> State
@@ -92,11 +92,11 @@ fn take_record(s: State, line: &[u8], number: usize) -> State
     let step = step_line(s.book, parse_line(line));
     let refusal = step.number;
     let book = step.book;
-    let mut numbers = s.numbers;
+    let mut refusals = s.refusals;
     if number < 778 {
-        numbers[number] = refusal;
+        refusals[number] = refusal;
     }
-    State { book, numbers }
+    State { book, refusals }
 }
 
 // A line of the text and its number: the first is the heading, without which no other is read.
@@ -106,8 +106,8 @@ pub(crate) fn take_line(s: State, line: &[u8], number: usize) -> State
     if number == 1 {
         return take_heading(s, line);
     }
-    let numbers = s.numbers;
-    if numbers[1] != 0 {
+    let refusals = s.refusals;
+    if refusals[1] != 0 {
         return s;
     }
     take_record(s, line, number)

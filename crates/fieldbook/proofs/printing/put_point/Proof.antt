@@ -1,13 +1,9 @@
 -- `put_point` meets its contract.
-use mathlib.Core.Path.{_≡_, sym, ap, _∙_}
-use mathlib.Core.Bool.{Bool, false}
-use mathlib.Core.List.{List, [], _∷_}
-use Prim.Native.Nat.{ℕ}
-use native.Mathlib.Omega.{arith}
-use lib.IntN.{ℤ, pos}
+use mathlib.Core.Path.{ap, _∙_}
+use mathlib.Core.List.{[], _∷_}
 use Rattle.columns.specs.Buffers.{placed}
 use Rattle.columns.specs.Lines.{tagLine, isWide}
-use Rattle.numbers.proofs.Machine.{stored-id, cast-nat}
+use Rattle.numbers.proofs.Machine.{stored-id}
 use Rattle.fieldbook.specs.Report.{pointNumbers}
 use Rattle.fieldbook.proofs.Written.{line-put}
 use mir.Syntax.{w64}

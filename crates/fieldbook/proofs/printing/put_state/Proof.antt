@@ -1,7 +1,7 @@
 -- `put_state` meets its contract.
-use mathlib.Core.Path.{_≡_, sym, ap, _∙_}
+use mathlib.Core.Path.{_≡_, ap, _∙_}
 use mathlib.Core.List.{List}
-use Prim.Native.Nat.{ℕ, _+_}
+use Prim.Native.Nat.{ℕ}
 use native.Mathlib.Omega.{arith}
 use lib.ListN.{length}
 use Rattle.columns.specs.Buffers.{putAt}
@@ -34,11 +34,11 @@ after-title c =
 
 refused : (c : tie.After-put-refusals)
     → c .put-refusals .last .0 ≡ putAt (putAt (c .before .before .before .before .before .before .before .before .before .args .buf .now) 0 title) 84
-    (joined (refusalLines 0 (c .before .before .before .before .before .before .before .before .before .args .s .numbers)))
+    (joined (refusalLines 0 (c .before .before .before .before .before .before .before .before .before .args .s .refusals)))
 refused c =
     let t = c .before .before .before .before in
     let s = t .before .before .before .before .before in
-    c .put-refusals .ensures .1 ∙ ap (λ (d : List ℕ). putAt d 84 (joined (refusalLines 0 (s .args .s .numbers)))) (titled t)
+    c .put-refusals .ensures .1 ∙ ap (λ (d : List ℕ). putAt d 84 (joined (refusalLines 0 (s .args .s .refusals)))) (titled t)
 
 after-refusals : (c : tie.After-put-refusals)
     → length (c .put-refusals .last .0) ≡ length (c .before .before .before .before .before .before .before .before .before .args .buf .now)
@@ -46,7 +46,7 @@ after-refusals c =
     let t = c .before .before .before .before in
     let s = t .before .before .before .before .before in
     ap length (c .put-refusals .ensures .1)
-    ∙ length-putAt (t .put-title .last .0) 84 (joined (refusalLines 0 (s .args .s .numbers))) (omega (arith, s .pre .1 .1, state-long (s .args .s), after-title t))
+    ∙ length-putAt (t .put-title .last .0) 84 (joined (refusalLines 0 (s .args .s .refusals))) (omega (arith, s .pre .1 .1, state-long (s .args .s), after-title t))
     ∙ after-title t
 
 put-book-requires : tie.Need-put-book-requires

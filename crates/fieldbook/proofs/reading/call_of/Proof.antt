@@ -13,7 +13,6 @@ use mir.Val.{SFits, toZ}
 use Rattle.numbers.specs.Whole.{filled}
 use Rattle.numbers.proofs.Filled.{filled-next, filled-full}
 use Rattle.numbers.proofs.Machine.{stored-id, cast-nat}
-use Rattle.fieldbook.specs.Text.{kindOf}
 use Rattle.fieldbook.proofs.reading.call_of.Statement.{statement}
 use Rattle.fieldbook.proofs.reading.call_of.Tie as tie
 

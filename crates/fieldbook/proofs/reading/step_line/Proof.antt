@@ -5,7 +5,6 @@ use lib.IntN.{ℤ}
 use Rattle.columns.specs.declared.reader.Kind.{Kind}
 use Rattle.columns.specs.declared.reader.Line.{Line}
 use Rattle.book.specs.declared.Book.{Book}
-use Rattle.runner.specs.declared.Step.{Step}
 use Rattle.runner.specs.Calls as Calls
 use Rattle.fieldbook.specs.State.{lineStep}
 use borrow.Author.Needs.{needs}

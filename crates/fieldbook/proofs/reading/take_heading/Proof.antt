@@ -9,11 +9,11 @@ use Rattle.fieldbook.proofs.reading.take_heading.Tie as tie
 is-heading-requires : tie.Need-is-heading-requires
 is-heading-requires c κs = search needs
 
-array-write-numbers : tie.Need-array-write-numbers
-array-write-numbers c = search needs
+array-write-refusals : tie.Need-array-write-refusals
+array-write-refusals c = search needs
 
-array-write-numbers-2 : tie.Need-array-write-numbers-2
-array-write-numbers-2 c = search needs
+array-write-refusals-2 : tie.Need-array-write-refusals-2
+array-write-refusals-2 c = search needs
 
 returns : tie.Need-returns
 returns c =
@@ -28,4 +28,4 @@ returns-2 c =
 pub take-heading-spec : {M : Type 1} → statement M
 take-heading-spec =
     tie.close
-    (tie.spec is-heading-requires array-write-numbers array-write-numbers-2 returns returns-2)
+    (tie.spec is-heading-requires array-write-refusals array-write-refusals-2 returns returns-2)
