@@ -53,7 +53,7 @@ pub fn table() {
     NAMES.iter().for_each(|name| row(name, lent(&named(name)), named(name).len() / LINE));
     println!("\n{:<24}{head}", "A new buffer each time");
     NAMES.iter().for_each(|name| row(name, owned(&named(name)), named(name).len() / LINE));
-    for name in ["largest", "refusals"] {
+    for name in ["largest", "late", "refusals"] {
         println!("\n{:<24}{head}", format!("{name}, first lines"));
         for lines in [1, 97, 194, 388, 777] {
             row(&lines.to_string(), lent(&named(name)[..lines * LINE]), lines);

@@ -40,6 +40,15 @@ pub fn largest_book(order: i64) -> Vec<u8> {
     whole(text_of(&calls))
 }
 
+/// 64 sections of two stations (at third order four), then ends of runs that are refused with 29 as far as 777 lines go, then the end of the line.
+pub fn refused_late(order: i64) -> Vec<u8> {
+    let mut calls = sixty_four_sections(order, 64);
+    let end = calls.pop().expect("the end of the line");
+    calls.resize(775, Call::EndRun(7));
+    calls.push(end);
+    whole(text_of(&calls))
+}
+
 /// A station in each line, on a book that is never opened: each is refused with 21.
 pub fn refused_stations() -> Vec<u8> {
     whole(after_heading("STA    4787    1571    1197    1384    6171    4687     739     363     551    5239"))

@@ -5,9 +5,8 @@ use std::sync::LazyLock;
 use level_tests::damage::{damage, rubbish, text_book};
 use level_tests::examples::{book, examples};
 use level_tests::generate::{line, Kind};
-use level_tests::largest::{after_heading, blank_lines, largest_book, sixty_four_sections};
+use level_tests::largest::{after_heading, blank_lines, largest_book, refused_late, sixty_four_sections};
 use level_tests::mutate::any_call;
-use level_tests::plain::Call;
 use level_tests::random::Random;
 use level_tests::report::{reduce_into, SHORTEST_BUFFER};
 use level_tests::text::{number, LINE, LONGEST_TEXT};
@@ -159,11 +158,7 @@ fn the_largest_text() {
     }
     for order in [3, 4] {
         assert_eq!(compare(&largest_book(order)).unwrap().len(), 67 * LINE);
-        let mut calls = sixty_four_sections(order, 64);
-        let end = calls.pop().unwrap();
-        calls.resize(775, Call::EndRun(7));
-        calls.push(end);
-        let report = compare(&text_of(&calls)).unwrap();
+        let report = compare(&refused_late(order)).unwrap();
         assert_eq!(report.len(), (67 + 776 - if order == 3 { 386 } else { 194 }) * LINE);
     }
     let mut random = Random::new(24);
