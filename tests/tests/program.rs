@@ -6,9 +6,10 @@ use std::thread::{sleep, spawn};
 use std::time::{Duration, Instant};
 
 use level_tests::examples::{book, examples, path};
+use level_tests::largest::blank_lines;
 use level_tests::report::printed;
 use level_tests::text::LONGEST_TEXT;
-use level_tests::write::{filled, heading};
+use level_tests::write::filled;
 
 /// After so long the program is taken to hang.
 const PATIENCE: Duration = Duration::from_secs(20);
@@ -81,12 +82,6 @@ fn too_long() -> String {
     all(&filled("REF       0       9")[..])
 }
 
-fn longest_text() -> Vec<u8> {
-    let text: Vec<u8> = heading().into_iter().chain(filled("").repeat(776)).collect();
-    assert_eq!(text.len(), LONGEST_TEXT);
-    text
-}
-
 #[test]
 fn the_examples() {
     for example in examples() {
@@ -122,7 +117,7 @@ fn no_input() {
 /// The longest text, whose report is the longest too, and a byte more.
 #[test]
 fn the_longest_text() {
-    let mut text = longest_text();
+    let mut text = blank_lines();
     for bytes in [usize::MAX, 4_096, 1_000] {
         assert_eq!(in_pieces(text.clone(), bytes, Duration::from_millis(1)), expected(&text));
     }
@@ -156,7 +151,7 @@ fn an_input_that_falls_silent() {
 /// The reader goes away before the report comes: the program ends, and says nothing.
 #[test]
 fn a_reader_who_goes_away() {
-    for text in [book("case-a"), longest_text(), vec![b' '; LONGEST_TEXT + 1]] {
+    for text in [book("case-a"), blank_lines(), vec![b' '; LONGEST_TEXT + 1]] {
         let mut child = start();
         drop(child.stdout.take());
         let _ = child.stdin.take().expect("its input").write_all(&text);

@@ -5,8 +5,8 @@ use std::sync::LazyLock;
 use level_tests::damage::{damage, rubbish, text_book};
 use level_tests::examples::{book, examples};
 use level_tests::generate::{line, Kind};
+use level_tests::largest::{after_heading, blank_lines, largest_book, refused_late, sixty_four_sections};
 use level_tests::mutate::any_call;
-use level_tests::plain::Call;
 use level_tests::random::Random;
 use level_tests::report::{reduce_into, SHORTEST_BUFFER};
 use level_tests::text::{number, LINE, LONGEST_TEXT};
@@ -132,37 +132,13 @@ fn the_first_line() {
     assert_eq!(compare(&[heading(), whole].concat()).unwrap()[84..168], filled("REF       2       1"));
 }
 
-/// A book of 64 sections that is closed; at third order each section is levelled out and back.
-fn sixty_four_sections(order: i64) -> Vec<Call> {
-    let station = |back_k: i64, back, fore| Call::Station { back_k, fore_k: 9_474 - back_k, readings: [back, fore] };
-    let out = [
-        station(4_787, [1_300, 1_100, 1_200, 5_987], [1_000, 800, 900, 5_587]),
-        station(4_687, [1_500, 1_300, 1_400, 6_087], [1_250, 1_050, 1_150, 5_937]),
-    ];
-    let back = [
-        station(4_687, [1_250, 1_050, 1_150, 5_837], [1_500, 1_300, 1_400, 6_187]),
-        station(4_787, [1_000, 800, 900, 5_687], [1_300, 1_100, 1_200, 5_887]),
-    ];
-    let mut calls = vec![Call::Open { order, instrument: 3, start: 1, height: 10_000 }];
-    for begin in 1..=64 {
-        calls.extend(out.clone());
-        calls.push(Call::EndRun(begin + 1));
-        if order == 3 {
-            calls.extend(back.clone());
-            calls.push(Call::EndRun(begin));
-        }
-    }
-    calls.push(Call::CloseLine { number: 65, height: 45_190 });
-    calls
-}
-
 #[test]
 fn sixty_four_sections_in_a_text() {
     for (order, closing, second) in [
         (3, "CLO      40  102400      64       0       1", "PNT       2    1600       0   10550"),
         (4, "CLO      40  102400      64       0       0", "PNT       2    1600       0   10550"),
     ] {
-        let report = compare(&text_of(&sixty_four_sections(order))).unwrap();
+        let report = compare(&text_of(&sixty_four_sections(order, 64))).unwrap();
         assert_eq!(report.len(), 67 * LINE);
         assert_eq!(words(&report[LINE..2 * LINE]), words(&filled(closing)));
         assert_eq!(words(&report[3 * LINE..4 * LINE]), words(&filled(second)));
@@ -170,22 +146,19 @@ fn sixty_four_sections_in_a_text() {
     }
 }
 
-/// 777 lines: all refused but the heading; 64 sections with refused lines before the end; and any calls after a long line's.
+/// 777 lines: all refused but the heading; all taken; 64 sections with refused lines before the end; and any calls after a long line's.
 #[test]
 fn the_largest_text() {
     for (words, refusal) in [("", 1), ("RUN", 2), ("LIN       5       3       1       0", 3), ("DRR", 21)] {
-        let text: Vec<u8> = heading().into_iter().chain(filled(words).repeat(776)).collect();
+        let text = after_heading(words);
         assert_eq!(text.len(), LONGEST_TEXT);
         let report = compare(&text).unwrap();
         assert_eq!(report.len(), 778 * LINE);
         assert_eq!(report[776 * LINE..777 * LINE], filled(&format!("REF     777{refusal:>8}")));
     }
     for order in [3, 4] {
-        let mut calls = sixty_four_sections(order);
-        let end = calls.pop().unwrap();
-        calls.resize(775, Call::EndRun(7));
-        calls.push(end);
-        let report = compare(&text_of(&calls)).unwrap();
+        assert_eq!(compare(&largest_book(order)).unwrap().len(), 67 * LINE);
+        let report = compare(&refused_late(order)).unwrap();
         assert_eq!(report.len(), (67 + 776 - if order == 3 { 386 } else { 194 }) * LINE);
     }
     let mut random = Random::new(24);
@@ -209,7 +182,7 @@ fn the_largest_text() {
 #[test]
 fn every_length() {
     let mut random = Random::new(25);
-    let mut long = text_of(&sixty_four_sections(4));
+    let mut long = text_of(&sixty_four_sections(4, 64));
     while long.len() < 65_400 {
         long.extend(filled("DRR"));
     }
@@ -226,7 +199,7 @@ fn every_length() {
 
 #[test]
 fn every_buffer() {
-    let largest: Vec<u8> = heading().into_iter().chain(filled("").repeat(776)).collect();
+    let largest = blank_lines();
     let too_long = [&largest[..], b" "].concat();
     let far_too_long = vec![b' '; 1 << 20];
     for text in [b"".to_vec(), book("case-a"), largest] {
@@ -246,7 +219,7 @@ fn every_buffer() {
 
 #[test]
 fn line_feeds_missing_doubled_or_others() {
-    for whole in [book("case-a"), book("section-dropped"), text_of(&sixty_four_sections(3))] {
+    for whole in [book("case-a"), book("section-dropped"), text_of(&sixty_four_sections(3, 64))] {
         for feed in (83..whole.len()).step_by(LINE) {
             for other in [&b""[..], b"\n\n", b" ", b"\r", b"\r\n", b"\n\r", b"\0", b" \n", b"\n "] {
                 let mut text = whole.clone();
