@@ -57,9 +57,16 @@ legFits x = within (x .height) 50000000 && between (pos 1) (x .distance) (pos 12
 abbrev pub sectionFits : Section → Bool
 sectionFits x = legFits x && within (x .discrepancy) 100000
 
--- some section is outside: of document 01's range, or of the wider one
+-- outside document 01's range, or outside the wider one
+abbrev pub outside : Bool → Section → Bool
+outside strict x = not (cond strict (legInRange x) (sectionFits x))
+
+-- a section of which the ranges see all there is
+abbrev pub unnumbered : ℤ → ℤ → ℤ → Section
+unnumbered height distance discrepancy = record { number = pos 0; height = height; distance = distance; discrepancy = discrepancy }
+
 abbrev pub anyOutside : Bool → List Section → Bool
-anyOutside strict ss = anyOf (λ (x : Section). not (cond strict (legInRange x) (sectionFits x))) ss
+anyOutside strict ss = anyOf (outside strict) ss
 
 -- more than 64 sections, or one outside the wider range
 abbrev pub misfit : List Section → Bool

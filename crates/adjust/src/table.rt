@@ -1,8 +1,7 @@
 // The sections of a line in arrays, read one by one.
 ghost use mathlib.Core.Path.{_≡_};
-ghost use mathlib.Core.Bool.{not, cond};
 ghost use Prim.Native.Nat.{_<_, _≤_};
-ghost use Rattle.adjust.specs.Sections.{sectionAt, sectionsOf, legInRange, sectionFits, anyOutside, misfit};
+ghost use Rattle.adjust.specs.Sections.{sectionAt, sectionsOf, unnumbered, outside, anyOutside, misfit};
 use super::Section;
 use super::Sections;
 use roots::limits::magnitude;
@@ -20,16 +19,16 @@ pub(crate) fn section_at(s: Sections, k: usize) -> Section
     }
 }
 
-// Whether a section is outside document 01's range of Q and R, or outside the wider one.
-fn is_outside(strict: bool, x: Section) -> bool
-    ensures { λ r. ⌜ r ≡ not (cond strict (legInRange x) (sectionFits x)) ⌝ }
+// Whether a section's Q and R are outside document 01's range, or Q, R and D outside the wider one.
+fn is_outside(strict: bool, height: i64, distance: i64, discrepancy: i64) -> bool
+    ensures { λ r. ⌜ r ≡ outside strict (unnumbered height distance discrepancy) ⌝ }
 {
-    let distance = (1 <= x.distance) & (x.distance <= 1200000);
-    let height = magnitude(x.height);
+    let size = magnitude(height);
+    let long = (1 <= distance) & (distance <= 1200000);
     if strict {
-        return !((height <= 2500000) & distance);
+        return !((size <= 2500000) & long);
     }
-    !((height <= 50000000) & distance & (magnitude(x.discrepancy) <= 100000))
+    !((size <= 50000000) & long & (magnitude(discrepancy) <= 100000))
 }
 
 // Whether any of the sections is.
@@ -40,7 +39,8 @@ pub(crate) fn any_outside(strict: bool, s: Sections) -> bool
     let count = s.count;
     let mut k = 0;
     while k < count {
-        if is_outside(strict, section_at(s, k)) {
+        // no `section_at`, which would copy all the arrays for each section of a book that is tested at every call
+        if is_outside(strict, s.heights[k], s.distances[k], s.discrepancies[k]) {
             return true;
         }
         k += 1;
