@@ -3,7 +3,7 @@ ghost use mathlib.Core.Path.{_≡_};
 ghost use mathlib.Core.List.{_∷_};
 ghost use lib.IntN.{pos};
 ghost use Rattle.fieldbook.specs.Text.{kindOf};
-ghost use Rattle.fieldbook.specs.State.{lineStep, freshState, withHeading, withRecord, stateWith, lineAt, lineCount};
+ghost use Rattle.fieldbook.specs.State.{lineStep, freshState, withHeading, stateWith, lineAt, lineCount};
 use book::Book;
 use columns::reader::Kind;
 use columns::reader::Line;
@@ -86,19 +86,6 @@ fn take_heading(s: State, line: &[u8]) -> State
     State { book, refusals }
 }
 
-fn take_record(s: State, line: &[u8], number: usize) -> State
-    ensures { λ r. ⌜ r ≡ withRecord s (now (line .entry)) number ⌝ }
-{
-    let step = step_line(s.book, parse_line(line));
-    let refusal = step.number;
-    let book = step.book;
-    let mut refusals = s.refusals;
-    if number < 778 {
-        refusals[number] = refusal;
-    }
-    State { book, refusals }
-}
-
 // A line of the text and its number: the first is the heading, without which no other is read.
 pub(crate) fn take_line(s: State, line: &[u8], number: usize) -> State
     ensures { λ r. ⌜ r ≡ stateWith s (now (line .entry)) number ⌝ }
@@ -106,11 +93,17 @@ pub(crate) fn take_line(s: State, line: &[u8], number: usize) -> State
     if number == 1 {
         return take_heading(s, line);
     }
-    let refusals = s.refusals;
+    let mut refusals = s.refusals;
     if refusals[1] != 0 {
         return s;
     }
-    take_record(s, line, number)
+    let step = step_line(s.book, parse_line(line));
+    let refusal = step.number;
+    let book = step.book;
+    if number < 778 {
+        refusals[number] = refusal;
+    }
+    State { book, refusals }
 }
 
 // Line `number` of a text, counted from 1; no bytes where the text has no such line.
