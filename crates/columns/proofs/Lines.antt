@@ -14,7 +14,7 @@ use Rattle.numbers.proofs.Tests.{by-test, is-false}
 use Rattle.numbers.proofs.Parts.{ints, posPart, negPart, parts-abs, test-ge}
 use Rattle.columns.specs.Buffers.{putAt}
 use Rattle.columns.specs.Decimals.{blanks, fitsIn, pad}
-use Rattle.columns.specs.Lines.{lineEnd, lineWith, widthOf, fields, allFit, columnsOf, lineFits, tagLine, isWide, heading, title}
+use Rattle.columns.specs.Lines.{lineEnd, lineWith, widthOf, fields, allFit, columnsOf, lineFits, tagLine, isWide, title}
 use Rattle.columns.proofs.Lists.{drop-next, left-next}
 use Rattle.columns.proofs.Compare.{both}
 use Rattle.columns.proofs.Put.{put-after}
@@ -59,10 +59,6 @@ length-fields wide (z ∷ zs) h =
     length-append (pad (widthOf wide (length zs)) z) (fields wide zs)
     ∙ (λ i. length-pad (widthOf wide (length zs)) z (t .0) i + length-fields wide zs (t .1) i)
     ∙ sym (columns-next wide (length zs))
-
-pub fit-cons : (wide : Bool) (z : ℤ) (zs : List ℤ) → fitsIn (widthOf wide (length zs)) z ≡ true → allFit wide zs ≡ true → allFit wide (z ∷ zs) ≡ true
-unfolding allFit
-fit-cons wide z zs e f = ap (λ (t : Bool). cond t (allFit wide zs) false) e ∙ f
 
 -- a height fits its field: eight columns down to −9,999,999, sixteen below
 pub height-fits : (z : ℤ) → posPart z < 10 ^ 8 → negPart z < 10 ^ 15 → fitsIn (widthOf (isWide z) 0) z ≡ true
@@ -126,10 +122,6 @@ end-part from h =
 pub length-with : (s : List ℕ) → length s ≤ 83 → length (lineWith s) ≡ 84
 unfolding lineWith
 length-with s h = length-append s (lineEnd (length s)) ∙ omega (arith, length-end (length s) h)
-
-pub length-heading : length heading ≡ 84
-unfolding heading
-length-heading = length-with _ (omega arith)
 
 pub length-title : length title ≡ 84
 unfolding title

@@ -21,24 +21,6 @@ module _ {A : Type 0} where
       let l : length (take at d) ≡ at = length-take-le at d (omega arith) in
       simp (length-append, l, length-drop) (omega arith)
 
-  -- what stands before the block, the block, and what stands behind it
-  pub put-front : (d : List A) (at : ℕ) (s : List A) → at ≤ length d → take at (putAt d at s) ≡ take at d
-  unfolding putAt
-  put-front d at s h = take-at (take at d) (s ++ drop (at + length s) d) at (length-take-le at d h)
-
-  pub put-block : (d : List A) (at : ℕ) (s : List A) → at ≤ length d → take (length s) (drop at (putAt d at s)) ≡ s
-  unfolding putAt
-  put-block d at s h =
-      ap (take (length s)) (drop-at (take at d) (s ++ drop (at + length s) d) at (length-take-le at d h))
-      ∙ take-at s (drop (at + length s) d) (length s) refl
-
-  pub put-behind : (d : List A) (at : ℕ) (s : List A) → at ≤ length d → drop (at + length s) (putAt d at s) ≡ drop (at + length s) d
-  unfolding putAt
-  put-behind d at s h =
-      sym (drop-drop (length s) at (putAt d at s))
-      ∙ ap (drop (length s)) (drop-at (take at d) (s ++ drop (at + length s) d) at (length-take-le at d h))
-      ∙ drop-at s (drop (at + length s) d) (length s) refl
-
   pub put-none : (d : List A) (at : ℕ) → putAt d at [] ≡ d
   unfolding putAt
   put-none d at = ap (λ (k : ℕ). take at d ++ drop k d) (add-zero at) ∙ take-append-drop at d

@@ -1,10 +1,10 @@
 -- Lines of a text: the next line, the end of the text, and that a text is its lines joined.
 use mathlib.Core.Path.{_≡_, refl, sym, ap, _∙_}
 use mathlib.Core.List.{List, [], _∷_, _++_, append-assoc}
-use Prim.Native.Nat.{ℕ, zero, suc, _+_, _-_, _≤_, _<_, min}
+use Prim.Native.Nat.{ℕ, zero, suc, _+_, _-_, _≤_, _<_}
 use native.Mathlib.Omega.{arith}
-use lib.ListN.{length, take, drop, getD, length-drop, length-take, length-append, take-append-drop, drop-of-length-le}
-use lib.Seq.{drop-cons, drop-drop, take-take, take-all, take-at, drop-at}
+use lib.ListN.{length, take, drop, getD, length-drop, length-append, take-append-drop, drop-of-length-le}
+use lib.Seq.{drop-cons, drop-drop, take-at, drop-at}
 use Rattle.columns.specs.Texts.{linesBy, lines, joined}
 
 -- fuel that is enough is as good as any other
@@ -39,13 +39,6 @@ lines-next t at h =
 pub lines-end : (t : List ℕ) (at : ℕ) → length t ≤ at → lines (drop at t) ≡ []
 unfolding lines linesBy
 lines-end t at h = ap lines (drop-of-length-le t h)
-
--- `&t[at..end]` is the next line
-pub next-part : (t : List ℕ) (at end : ℕ) → at < length t → end ≡ min (at + 84) (length t) → take (end - at) (drop at t) ≡ take 84 (drop at t)
-next-part t at end h q =
-    let d = length-drop at t in
-    let m = length-take 84 (drop at t) in
-    sym (take-take (end - at) 84 (drop at t) (omega arith)) ∙ take-all (end - at) (take 84 (drop at t)) (omega arith)
 
 -- ---- a text and its lines
 
