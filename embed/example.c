@@ -1,7 +1,9 @@
 /* Prints the report of a text book on standard input; with any argument, the adjusted heights of two sections.
  *
- *   cc -Wall -Wextra -o example embed/example.c target/staticlib/libfieldbook.a target/staticlib/libadjust.a
- *   ./example <examples/case-a.book */
+ * At the root of the repository, after `rt staticlib fieldbook` and `rt staticlib adjust`:
+ *   cc -Wall -Wextra -o target/example embed/example.c target/staticlib/libfieldbook.a target/staticlib/libadjust.a
+ *   target/example <examples/case-a.book
+ *   target/example heights */
 #include "levelbook.h"
 
 #include <inttypes.h>

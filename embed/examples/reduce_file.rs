@@ -1,4 +1,4 @@
-//! Prints the report of the text book in a file: `cargo run --example reduce_file -- ../examples/case-a.book`
+//! Prints the report of the text book in a file. In the folder embed/: `cargo run --example reduce_file -- ../examples/case-a.book`
 use std::error::Error;
 use std::io::Write;
 
