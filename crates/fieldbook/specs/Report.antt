@@ -70,9 +70,15 @@ report text = joined (reportLines (lines text))
 
 -- ---- the call
 
--- 9 for a text above 65,268 bytes, 10 for a buffer below 65,536
+-- a text above 65,268 bytes, and a buffer below 65,536
+abbrev pub tooLong : List ℕ → Bool
+tooLong text = ltb 65268 (length text)
+
+abbrev pub tooSmall : List ℕ → Bool
+tooSmall buffer = ltb (length buffer) 65536
+
 abbrev pub textTests : List ℕ → List ℕ → List (ℕ × Bool)
-textTests text buffer = (9, ltb 65268 (length text)) ∷ (10, ltb (length buffer) 65536) ∷ []
+textTests text buffer = (9, tooLong text) ∷ (10, tooSmall buffer) ∷ []
 
 unfoldable pub textRefusal : List ℕ → List ℕ → ℕ
 textRefusal text buffer = firstOf (textTests text buffer)
@@ -102,11 +108,11 @@ reducedOf text buffer = reducedAs (textRefusal text buffer) (length (report text
 
 -- what the program prints of a text: its report, or for 9 the single line REF 0 9, without a title
 abbrev pub printedFor : List ℕ → List ℕ
-printedFor text = cond (ltb 65268 (length text)) (refLine (record { line = 0; number = 9 })) (report text)
+printedFor text = cond (tooLong text) (refLine (record { line = 0; number = 9 })) (report text)
 
--- the buffer with that at its beginning, and its length; nothing where the buffer has less than 65,536 bytes
+-- the buffer with that at its beginning, and its length; nothing where the buffer is too small
 unfoldable pub printedInto : List ℕ → List ℕ → List ℕ
-printedInto text buffer = cond (ltb (length buffer) 65536) buffer (putAt buffer 0 (printedFor text))
+printedInto text buffer = cond (tooSmall buffer) buffer (putAt buffer 0 (printedFor text))
 
 unfoldable pub printedLength : List ℕ → List ℕ → ℕ
-printedLength text buffer = cond (ltb (length buffer) 65536) 0 (length (printedFor text))
+printedLength text buffer = cond (tooSmall buffer) 0 (length (printedFor text))

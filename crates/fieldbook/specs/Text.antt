@@ -16,7 +16,7 @@ use Rattle.runner.specs.Calls as Calls
 
 -- ---- a line
 
--- the kind of a tag's calls in a list of numbers
+-- the kind of a tag's calls in a list of numbers: LIN opens the line, STA is a station, RUN ends a run, DRR and DRS drop the run and the section, END closes
 abbrev pub kindOf : Tag → ℕ
 kindOf Lin = 1
 kindOf Sta = 2

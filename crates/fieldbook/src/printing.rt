@@ -103,7 +103,7 @@ fn put_closing(buf: &mut [u8], at: usize, x: Adjusted) -> usize
     at + 84 + 84 * n
 }
 
-// Where the line stands: the index after it.
+// What the report says of the book's line, CLO and PNT or OPN: the index after it.
 fn put_book(buf: &mut [u8], at: usize, b: Book) -> usize
     requires { ⌜ Printable b × (at + length (joined (bookLines b)) ≤ length (now buf)) ⌝ }
     ensures { λ r. ⌜ r ≡ at + length (joined (bookLines b)) ⌝ }
