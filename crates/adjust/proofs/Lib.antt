@@ -1,4 +1,4 @@
--- What callers cite: Lines, the adjustment's theorem in any units; Refused and Legs, the adjustment call; Lists, Sized and Bounded, sections in arrays and
+-- What callers cite: Lines, the adjustment's theorem in any units; Refused and Legs, the adjustment call; Lists, Lent, Sized and Bounded, sections in arrays and
 -- the sizes of their figures; Walks, steps of proofs by hand. Over and LegArray serve the adjustment call.
 pub mod Lines
 pub mod Lists
@@ -6,6 +6,7 @@ pub mod Bounded
 pub mod Sized
 pub mod Over
 pub mod Holding
+pub mod Lent
 pub mod Refused
 pub mod Legs
 pub mod Walks

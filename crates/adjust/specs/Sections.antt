@@ -68,9 +68,18 @@ unnumbered height distance discrepancy = record { number = pos 0; height = heigh
 abbrev pub anyOutside : Bool → List Section → Bool
 anyOutside strict ss = anyOf (outside strict) ss
 
+-- the first count sections of lists that hold Q, R and D; the numbers are not among them
+abbrev pub lent : ℕ → List ℤ → List ℤ → List ℤ → Sections
+lent count hs ds es = record { count = count; numbers = []; heights = hs; distances = ds; discrepancies = es }
+
 -- more than 64 sections, or one outside the wider range
 abbrev pub misfit : List Section → Bool
 misfit ss = not (leb (length ss) 64) || anyOutside false ss
+
+-- the same of lent lists; so too where one of them has fewer places
+abbrev pub misfitIn : ℕ → List ℤ → List ℤ → List ℤ → Bool
+misfitIn count hs ds es =
+    not (leb count 64) || not (leb count (length hs)) || not (leb count (length ds)) || not (leb count (length es)) || anyOutside false (sectionsOf (lent count hs ds es))
 
 abbrev pub heightInRange : ℤ → Bool
 heightInRange h = between (negℤ (pos 999999)) h (pos 8999999)

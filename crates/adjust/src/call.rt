@@ -27,7 +27,7 @@ fn adjust_refusal(start: i64, end: i64, s: Sections, places: usize) -> u8
     if places < s.count {
         return 13;
     }
-    if any_outside(true, s) {
+    if any_outside(true, s.count, &s.heights, &s.distances, &s.discrepancies) {
         return 12;
     }
     if height_in_range(start) & height_in_range(end) {

@@ -83,7 +83,8 @@ pub fn height_in_range(h: i64) -> bool
 fn figures_fit(start: i64, end: i64, s: Sections) -> bool
     ensures { λ r. ⌜ r ≡ figuresFit start end (sectionsOf s) ⌝ }
 {
-    (0 < s.count) & !table::misfits(s) & height_in_range(start) & height_in_range(end)
+    let misfit = table::misfits(s.count, &s.heights, &s.distances, &s.discrepancies);
+    (0 < s.count) & !misfit & height_in_range(start) & height_in_range(end)
 }
 
 // W and L of the sections between two known heights; zeros where the figures could not fit.

@@ -1,7 +1,8 @@
 // The sections of a line in arrays, read one by one.
 ghost use mathlib.Core.Path.{_≡_};
 ghost use Prim.Native.Nat.{_<_, _≤_};
-ghost use Rattle.adjust.specs.Sections.{sectionAt, sectionsOf, unnumbered, outside, anyOutside, misfit};
+ghost use lib.ListN.{length};
+ghost use Rattle.adjust.specs.Sections.{sectionAt, sectionsOf, unnumbered, lent, outside, anyOutside, misfitIn};
 use super::Section;
 use super::Sections;
 use roots::limits::magnitude;
@@ -31,16 +32,21 @@ fn is_outside(strict: bool, height: i64, distance: i64, discrepancy: i64) -> boo
     !((size <= 50000000) & long & (magnitude(discrepancy) <= 100000))
 }
 
-// Whether any of the sections is.
-pub(crate) fn any_outside(strict: bool, s: Sections) -> bool
-    requires { ⌜ s .count ≤ 64 ⌝ }
-    ensures { λ r. ⌜ r ≡ anyOutside strict (sectionsOf s) ⌝ }
+// Whether any of the first count sections is; a section's Q, R and D stand in the same place of the three lists. They are lent because this is
+// asked of a book at every call.
+pub(crate) fn any_outside<'a>(
+    strict: bool,
+    count: usize,
+    heights: &'a [i64],
+    distances: &'a [i64],
+    discrepancies: &'a [i64],
+) -> bool
+    requires { ⌜ (count ≤ length (now heights)) × ((count ≤ length (now distances)) × (count ≤ length (now discrepancies))) ⌝ }
+    ensures { λ r. ⌜ r ≡ anyOutside strict (sectionsOf (lent count (now (heights .entry)) (now (distances .entry)) (now (discrepancies .entry)))) ⌝ }
 {
-    let count = s.count;
     let mut k = 0;
     while k < count {
-        // no `section_at`, which would copy all the arrays for each section of a book that is tested at every call
-        if is_outside(strict, s.heights[k], s.distances[k], s.discrepancies[k]) {
+        if is_outside(strict, heights[k], distances[k], discrepancies[k]) {
             return true;
         }
         k += 1;
@@ -48,12 +54,26 @@ pub(crate) fn any_outside(strict: bool, s: Sections) -> bool
     false
 }
 
-// Whether there are more than 64 sections, or one outside the wider range.
-pub fn misfits(s: Sections) -> bool
-    ensures { λ r. ⌜ r ≡ misfit (sectionsOf s) ⌝ }
+// Whether there are more than 64 sections, or one outside the wider range; so too where a list has fewer places.
+pub fn misfits<'a>(
+    count: usize,
+    heights: &'a [i64],
+    distances: &'a [i64],
+    discrepancies: &'a [i64],
+) -> bool
+    ensures { λ r. ⌜ r ≡ misfitIn count (now (heights .entry)) (now (distances .entry)) (now (discrepancies .entry)) ⌝ }
 {
-    if 64 < s.count {
+    if 64 < count {
         return true;
     }
-    any_outside(false, s)
+    if heights.len() < count {
+        return true;
+    }
+    if distances.len() < count {
+        return true;
+    }
+    if discrepancies.len() < count {
+        return true;
+    }
+    any_outside(false, count, heights, distances, discrepancies)
 }

@@ -6,7 +6,6 @@ use lib.IntN.{ℤ}
 use Rattle.numbers.proofs.Tests.{or-r, not-false}
 use Rattle.numbers.proofs.Tables.{all-fail}
 use Rattle.adjust.specs.Sections.{sectionsOf, heightInRange}
-use Rattle.adjust.specs.Line.{closing}
 use Rattle.adjust.specs.Frames.{figuresFit, adjustedOf, nothing, adjustedIfFit}
 use Rattle.book.specs.declared.Book.{Book}
 use Rattle.book.specs.Standing.{standingOf, isEmpty, isReturn}
@@ -16,7 +15,7 @@ use Rattle.book.proofs.Parts.{taken-parts}
 use Rattle.book.proofs.Unbroken.{Unbroken, unbroken, some-long}
 
 module _ (b : Book) (number end : ℤ) (taken : bookRefusal (standingOf b) (close-line number end) ≡ 0) where
-  pub whole : Unbroken b
+  whole : Unbroken b
   whole = unbroken b (taken-parts (standingOf b) (close-line number end) taken .1)
 
   fit : figuresFit (b .line .start .height) end (sectionsOf (b .sections)) ≡ true

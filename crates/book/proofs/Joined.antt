@@ -1,28 +1,81 @@
--- How a call's refusal and its effect are joined to its outcome: one law for a refused call and one for a call that is taken, for every call.
-use mathlib.Core.Path.{_≡_, sym, ap, _∙_}
-use Prim.Native.Nat.{ℕ}
+-- How a call's refusal and its effect are joined to the change that it makes, and that to its outcome: one law for each case, for every call.
+use mathlib.Core.Path.{_≡_, refl, sym, ap, subst, _∙_}
+use mathlib.Core.List.{List}
+use Prim.Native.Nat.{ℕ, _≤_}
+use lib.IntN.{ℤ}
+use mir.Syntax.{w64}
+use mir.Val.{SFits}
 use Rattle.numbers.proofs.Tables.{zero-cond, nonzero-cond}
-use Rattle.adjust.specs.declared.Answer.{Answer}
+use Rattle.numbers.proofs.Machine.{stored, stored-id, stored-both}
+use Rattle.adjust.specs.Sections.{sectionsOf, holding}
 use Rattle.adjust.specs.Call.{answerOf}
+use Rattle.adjust.proofs.Holding.{Whole, holding-own}
+use Rattle.book.specs.declared.Line.{Line}
 use Rattle.book.specs.declared.Book.{Book}
-use Rattle.book.specs.Standing.{standingOf, bookWith}
-use Rattle.book.specs.Rules.{Call, bookRefusal, taken}
+use Rattle.book.specs.declared.Change.{Change}
+use Rattle.book.specs.Standing.{Standing, standingOf, bookWith}
+use Rattle.book.specs.Rules.{Call, open-line, station, end-run, close-line, bookRefusal, taken}
 use Rattle.book.specs.Calls.{bookAfter, outcome}
+use Rattle.book.specs.Changes.{movedTo, changed, Leaves, Makes}
+use Rattle.book.proofs.Parts.{taken-parts}
+use Rattle.book.proofs.Unbroken.{unbroken}
+
+-- a change of the line alone: arrays that hold their own list are unchanged
+pub leaves-moved : (b : Book) (v : Standing) → Whole (b .sections) → b .sections .count ≤ 64 → {l : Line} {x : Change}
+    → x ≡ movedTo 0 l → l ≡ v .line → sectionsOf (b .sections) ≡ v .sections → Leaves b v x
+leaves-moved b v w h m l ss = (
+  ap (λ (y : Change). y .number) m,
+  ap (changed b) m ∙ (λ i. record { line = l i; sections = (sym (holding-own (b .sections) w h) ∙ ap (holding (b .sections)) ss) i }),
+)
 
 module _ (b : Book) (c : Call) where
   pub left-as-it-was : (bookRefusal (standingOf b) c ≡ 0 → ⊥) → b ≡ bookAfter b c
   unfolding bookAfter
   left-as-it-was f = sym (nonzero-cond (bookRefusal (standingOf b) c) (bookWith b (taken (standingOf b) c)) b f)
 
-  pub effect-taken : bookRefusal (standingOf b) c ≡ 0 → bookWith b (taken (standingOf b) c) ≡ bookAfter b c
+  effect-taken : bookRefusal (standingOf b) c ≡ 0 → bookWith b (taken (standingOf b) c) ≡ bookAfter b c
   unfolding bookAfter
   effect-taken e = sym (zero-cond (bookRefusal (standingOf b) c) (bookWith b (taken (standingOf b) c)) b e)
 
-  module _ {code : ℕ} {a : Answer} (e : code ≡ bookRefusal (standingOf b) c) (answered : a ≡ answerOf code) where
-    pub joined-refused : (code ≡ 0 → ⊥) → record { answer = a; book = b } ≡ outcome b c
-    unfolding outcome
-    joined-refused f = λ i. record { answer = (answered ∙ ap answerOf e) i; book = left-as-it-was (λ z. f (e ∙ z)) i }
+-- ---- a call of numbers that fit, as the machine reads it back
 
-    pub joined-taken : {next : Book} → code ≡ 0 → next ≡ bookWith b (taken (standingOf b) c) → record { answer = a; book = next } ≡ outcome b c
-    unfolding outcome
-    joined-taken z n = λ i. record { answer = (answered ∙ ap answerOf e) i; book = (n ∙ effect-taken (sym e ∙ z)) i }
+pub open-as : {order instrument number height : ℤ} → SFits w64 order → SFits w64 instrument → SFits w64 number → SFits w64 height
+    → open-line (stored order) (stored instrument) (stored number) (stored height) ≡ open-line order instrument number height
+open-as o k n h = λ i. open-line (stored-id o i) (stored-id k i) (stored-id n i) (stored-id h i)
+
+pub station-as : {kb kf : ℤ} (readings : List (List ℤ)) → SFits w64 kb → SFits w64 kf → station (stored kb) (stored kf) readings ≡ station kb kf readings
+station-as readings b f = stored-both (λ kb kf. station kb kf readings) b f
+
+pub end-as : {number : ℤ} → SFits w64 number → end-run (stored number) ≡ end-run number
+end-as n = ap end-run (stored-id n)
+
+pub close-as : {number end : ℤ} → SFits w64 number → SFits w64 end → close-line (stored number) (stored end) ≡ close-line number end
+close-as n e = stored-both close-line n e
+
+-- one without numbers
+pub plain : (c : Call) → c ≡ c
+plain c = refl
+
+-- ---- the change of a call c, which is read back as d
+
+module _ (b : Book) {c d : Call} (same : d ≡ c) where
+  pub makes-as : (x : Change) → Makes b d x → Makes b c x
+  makes-as x = subst (λ (y : Call). Makes b y x) same
+
+  module _ {code : ℕ} (e : code ≡ bookRefusal (standingOf b) d) where
+    pub makes-refused : {x : Change} → (code ≡ 0 → ⊥) → x ≡ movedTo code (b .line) → Makes b c x
+    makes-refused {x} f m = makes-as x (ap (λ (y : Change). y .number) m ∙ e, ap (changed b) m ∙ left-as-it-was b d (λ z. f (e ∙ z)))
+
+    pub makes-taken : (x : Change) → code ≡ 0 → Leaves b (taken (standingOf b) d) x → Makes b c x
+    makes-taken x z l = makes-as x (l .0 ∙ sym z ∙ e, l .1 ∙ effect-taken b d (sym e ∙ z))
+
+    -- of the line alone
+    pub makes-moved : {x : Change} {l : Line} → Whole (b .sections) → code ≡ 0 → x ≡ movedTo 0 l → l ≡ taken (standingOf b) d .line
+        → sectionsOf (b .sections) ≡ taken (standingOf b) d .sections → Makes b c x
+    makes-moved {x} w z m l ss =
+        let v = standingOf b in
+        makes-taken x z (leaves-moved b (taken v d) w (unbroken b (taken-parts v d (sym e ∙ z) .1) .few) m l ss)
+
+  pub makes-outcome : (x : Change) → Makes b d x → record { answer = answerOf (x .number); book = changed b x } ≡ outcome b c
+  unfolding outcome
+  makes-outcome x m = let n = makes-as x m in λ i. record { answer = answerOf (n .0 i); book = n .1 i }

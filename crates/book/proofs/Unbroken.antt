@@ -1,6 +1,6 @@
 -- An unbroken book: what the test of 20 leaves to know of its counts and sums.
 use mathlib.Core.Path.{_≡_, refl, sym, ap, _∙_}
-use mathlib.Core.Bool.{true, false, not, _&&_, _||_}
+use mathlib.Core.Bool.{Bool, true, false, not, _&&_, _||_}
 use mathlib.Core.List.{List, [], _∷_}
 use Prim.Native.Nat.{ℕ, zero, suc, _≤_, _<_}
 use native.Mathlib.Omega.{arith}
@@ -19,7 +19,7 @@ use Rattle.book.specs.declared.Waiting.{Waiting}
 use Rattle.book.specs.declared.Waiting.the-variants.{Nothing, Outward}
 use Rattle.book.specs.declared.Book.{Book}
 use Rattle.book.specs.Bounds.{SmallRun, SmallRuns}
-use Rattle.book.specs.Standing.{standingOf, isEmpty, runFits, waitingBroken, lineBroken, misplaced, broken}
+use Rattle.book.specs.Standing.{standingOf, isFresh, isEmpty, isReturn, twoWay, runFits, waitingBroken, lineBroken, misplaced, broken}
 
 pub small-run : (u : Run) → runFits u ≡ true → SmallRun u
 small-run u e =
@@ -95,3 +95,22 @@ empty-count s = empty-from s 0 (s .count)
 pub some-long : {A : Type 0} (xs : List A) → isEmpty xs ≡ false → ltb 0 (length xs) ≡ true
 some-long [] e = no-true (sym e)
 some-long (x ∷ xs) e = lt-ltb 0 (length (x ∷ xs)) (omega arith)
+
+-- a fresh book has no section
+none-long : {A : Type 0} (xs : List A) → eqb (length xs) 0 ≡ true → xs ≡ []
+none-long [] e = refl
+none-long (x ∷ xs) e = no-true (sym (eqb·suc-zero (length xs)) ∙ e)
+
+pub fresh-none : (b : Book) → broken (standingOf b) ≡ false → isFresh (b .line .stage) ≡ true → sectionsOf (b .sections) ≡ []
+unfolding broken
+fresh-none b e f =
+    let l = b .line in
+    let ss = sectionsOf (b .sections) in
+    let none = eqb (length ss) 0 in
+    let idle = eqb (l .present .count) 0 in
+    let back = isReturn (l .waiting) in
+    let nothing = none && idle && not back in
+    let placed = or-r (misfit ss || lineBroken l (length ss)) (misplaced l (length ss)) e in
+    let fresh = or-l (isFresh (l .stage) && not nothing) (back && not (twoWay (l .order))) placed in
+    let held = not-false nothing (ap (λ (t : Bool). t && not nothing) (sym f) ∙ fresh) in
+    none-long ss (and-l none idle (and-l (none && idle) (not back) held))

@@ -1,4 +1,5 @@
 pub mod Standing
 pub mod Rules
 pub mod Calls
+pub mod Changes
 pub mod Bounds

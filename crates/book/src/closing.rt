@@ -7,13 +7,12 @@ ghost use Rattle.adjust.specs.Frames.{figuresFit};
 ghost use Rattle.book.specs.Standing.{standingOf, isShut, broken};
 ghost use Rattle.book.specs.Rules.{close-line, lengthLimit, closureWithin, lineTests, inputTests, stateTests, bookRefusal};
 use super::Book;
-use super::refusals::is_shut;
 use super::refusals::number_in_range;
 use super::refusals::pick;
 use super::state::began_at;
-use super::state::is_broken;
 use super::state::is_open;
 use super::state::is_return;
+use super::state::look;
 use roots::limits::within;
 use station::Order;
 
@@ -57,8 +56,8 @@ fn line_refusal(b: Book, end: i64, shut: bool) -> u8
     pick(!(t.distance <= limit), 35, w)
 }
 
-fn close_state(b: Book, number: i64, end: i64) -> u8
-    requires { ⌜ (broken (standingOf b) ≡ false) × (heightInRange end ≡ true) ⌝ }
+fn close_state(b: Book, shut: bool, number: i64, end: i64) -> u8
+    requires { ⌜ ((broken (standingOf b) ≡ false) × (shut ≡ isShut (standingOf b))) × (heightInRange end ≡ true) ⌝ }
     ensures { λ r. ⌜ r ≡ firstOf (stateTests (standingOf b) (close-line number end)) ⌝ }
 {
     let line = b.line;
@@ -71,7 +70,6 @@ fn close_state(b: Book, number: i64, end: i64) -> u8
     if !(line.present.count == 0) | is_return(waiting) | (sections.count == 0) {
         return 33;
     }
-    let shut = is_shut(b);
     let began = began_at(line.start.number, sections);
     if !(number == began) | (shut & !(end == line.start.height)) {
         return 34;
@@ -86,8 +84,16 @@ pub(crate) fn close_refusal(b: Book, number: i64, end: i64) -> u8
     if input != 0 {
         return input;
     }
-    if is_broken(b) {
+    let seen = look(
+        b.line,
+        b.sections.count,
+        &b.sections.numbers,
+        &b.sections.heights,
+        &b.sections.distances,
+        &b.sections.discrepancies,
+    );
+    if seen.broken {
         return 20;
     }
-    close_state(b, number, end)
+    close_state(b, seen.shut, number, end)
 }

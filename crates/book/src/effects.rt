@@ -1,22 +1,24 @@
-// The book after a call that is taken.
+// What a call that is taken leaves of the line, and the section that it finishes.
 ghost use mathlib.Core.Path.{_≡_};
 ghost use mathlib.Core.Bool.{cond};
-ghost use Prim.Native.Nat.{_≤_, _<_};
-ghost use mathlib.Core.List.{[], _∷_, _++_};
-ghost use Rattle.adjust.specs.Sections.{sectionsOf, holding};
-ghost use Rattle.book.specs.declared.Waiting.the-variants.{Outward};
-ghost use Rattle.book.specs.Standing.{standingOf, bookWith, noRun, withStation, oneWay, bothWays, twoWay};
-ghost use Rattle.book.specs.Rules.{open-line, station, end-run, drop-run, drop-section, orderOf, instrumentOf, withRuns, withSection, closedAt, bookRefusal, taken};
-ghost use Rattle.book.specs.Bounds.{SmallRun};
+ghost use Prim.Native.Nat.{_<_};
+ghost use Rattle.adjust.specs.Sections.{sectionsOf};
 ghost use Rattle.station.specs.Bounds.{Small};
+ghost use Rattle.book.specs.declared.Waiting.the-variants.{Nothing, Outward};
+ghost use Rattle.book.specs.Standing.{standingOf, noRun, withStation, oneWay, bothWays, twoWay};
+ghost use Rattle.book.specs.Rules.{station, end-run, orderOf, instrumentOf, withRuns, withSection, closedAt, bookRefusal, taken};
+ghost use Rattle.book.specs.Rules as Rules;
+ghost use Rattle.book.specs.Bounds.{SmallRun};
+ghost use Rattle.book.specs.Changes.{Leaves};
 use super::Book;
+use super::Change;
 use super::Line;
 use super::Run;
 use super::Stage;
 use super::Waiting;
+use super::changes::moved;
 use adjust::Benchmark;
 use adjust::Section;
-use adjust::Sections;
 use station::Figures;
 use station::Instrument;
 use station::Order;
@@ -70,14 +72,14 @@ fn instrument_of(n: i64) -> Instrument
     }
 }
 
-pub(crate) fn opened(b: Book, order: i64, instrument: i64, number: i64, height: i64) -> Book
-    ensures { λ r. ⌜ r ≡ bookWith b (taken (standingOf b) (open-line order instrument number height)) ⌝ }
+pub(crate) fn opened(order: i64, instrument: i64, number: i64, height: i64) -> Line
+    ensures { λ r. ⌜ r ≡ Rules.opened order instrument number height ⌝ }
 {
     let start = Benchmark {
         number: number,
         height: height,
     };
-    let line = Line {
+    Line {
         stage: Stage::Open,
         order: order_of(order),
         instrument: instrument_of(instrument),
@@ -85,12 +87,6 @@ pub(crate) fn opened(b: Book, order: i64, instrument: i64, number: i64, height: 
         end: 0,
         waiting: Waiting::Nothing,
         present: no_run(),
-    };
-    let mut sections = b.sections;
-    sections.count = 0;
-    Book {
-        line: line,
-        sections: sections,
     }
 }
 
@@ -109,29 +105,15 @@ fn with_station(u: Run, f: Figures, kf: i64) -> Run
     }
 }
 
-// A book with the same sections and other runs.
-fn with_line(b: Book, waiting: Waiting, present: Run) -> Book
-    requires { ⌜ b .sections .count ≤ 64 ⌝ }
-    ensures { λ r. ⌜ r ≡ bookWith b (record { line = withRuns (b .line) waiting present; sections = sectionsOf (b .sections) }) ⌝ }
-{
-    let line = b.line;
-    let sections = b.sections;
-    Book {
-        line: with_runs(line, waiting, present),
-        sections: sections,
-    }
-}
-
-pub(crate) fn with_taken_station(b: Book, kb: i64, kf: i64, readings: [[i64; 4]; 2]) -> Book
+pub(crate) fn with_taken_station(b: Book, kb: i64, kf: i64, readings: [[i64; 4]; 2]) -> Line
     requires { ⌜ bookRefusal (standingOf b) (station kb kf readings) ≡ 0 ⌝ }
-    ensures { λ r. ⌜ r ≡ bookWith b (taken (standingOf b) (station kb kf readings)) ⌝ }
+    ensures { λ r. ⌜ r ≡ taken (standingOf b) (station kb kf readings) .line ⌝ }
 {
     let line = b.line;
     let waiting = line.waiting;
     let present = line.present;
     let f = station::figures_of(kb, kf, readings);
-    let next = with_station(present, f, kf);
-    with_line(b, waiting, next)
+    with_runs(line, waiting, with_station(present, f, kf))
 }
 
 // ---- end run
@@ -160,96 +142,76 @@ fn both_ways(number: i64, out: Run, back: Run) -> Section
     }
 }
 
-// The sections with one more.
-fn with_stored(s: Sections, x: Section) -> Sections
-    requires { ⌜ s .count < 64 ⌝ }
-    ensures { λ r. ⌜ r ≡ holding s (sectionsOf s ++ (x ∷ [])) ⌝ }
-{
-    let at = s.count;
-    let number = x.number;
-    let height = x.height;
-    let distance = x.distance;
-    let discrepancy = x.discrepancy;
-    let mut next = s;
-    next.numbers[at] = number;
-    next.heights[at] = height;
-    next.distances[at] = distance;
-    next.discrepancies[at] = discrepancy;
-    next.count = at + 1;
-    next
-}
-
-fn with_section(b: Book, x: Section) -> Book
+// A section is finished: nothing waits any more, and the next run begins.
+fn finished(b: Book, section: Section) -> Change
     requires { ⌜ b .sections .count < 64 ⌝ }
-    ensures { λ r. ⌜ r ≡ bookWith b (withSection (standingOf b) x) ⌝ }
+    ensures { λ r. ⌜ Leaves b (withSection (standingOf b) section) r ⌝ }
 {
     let line = b.line;
-    let sections = b.sections;
-    Book {
+    Change {
+        number: 0,
         line: with_runs(line, Waiting::Nothing, no_run()),
-        sections: with_stored(sections, x),
+        finishes: true,
+        section: section,
     }
 }
 
 // An outward run ends: at third order it waits, at fourth it is a section.
-fn outward_ended(b: Book, number: i64) -> Book
+fn outward_ended(b: Book, number: i64) -> Change
     requires { ⌜ SmallRun (b .line .present) × (b .sections .count < 64) ⌝ }
-    ensures { λ r. ⌜ r ≡ bookWith b (cond (twoWay (b .line .order)) (record { line = withRuns (b .line) (Outward number (b .line .present)) noRun; sections = sectionsOf (b .sections) }) (withSection (standingOf b) (oneWay number (b .line .present)))) ⌝ }
+    ensures { λ r. ⌜ Leaves b (cond (twoWay (b .line .order)) (record { line = withRuns (b .line) (Outward number (b .line .present)) noRun; sections = sectionsOf (b .sections) }) (withSection (standingOf b) (oneWay number (b .line .present)))) r ⌝ }
 {
     let line = b.line;
     let order = line.order;
     let present = line.present;
     match order {
-        Order::Third => with_line(b, Waiting::Outward(number, present), no_run()),
-        Order::Fourth => with_section(b, one_way(number, present)),
+        Order::Third => moved(
+            0,
+            with_runs(line, Waiting::Outward(number, present), no_run()),
+        ),
+        Order::Fourth => finished(b, one_way(number, present)),
     }
 }
 
-pub(crate) fn run_ended(b: Book, number: i64) -> Book
+pub(crate) fn run_ended(b: Book, number: i64) -> Change
     requires { ⌜ bookRefusal (standingOf b) (end-run number) ≡ 0 ⌝ }
-    ensures { λ r. ⌜ r ≡ bookWith b (taken (standingOf b) (end-run number)) ⌝ }
+    ensures { λ r. ⌜ Leaves b (taken (standingOf b) (end-run number)) r ⌝ }
 {
     let line = b.line;
     let waiting = line.waiting;
     let present = line.present;
     match waiting {
         Waiting::Nothing => outward_ended(b, number),
-        Waiting::Outward(outward, run) => with_section(b, both_ways(outward, run, present)),
+        Waiting::Outward(outward, run) => finished(b, both_ways(outward, run, present)),
     }
 }
 
 // ---- drop run, drop section
 
-pub(crate) fn run_dropped(b: Book) -> Book
-    requires { ⌜ b .sections .count ≤ 64 ⌝ }
-    ensures { λ r. ⌜ r ≡ bookWith b (taken (standingOf b) drop-run) ⌝ }
+pub(crate) fn run_dropped(line: Line) -> Line
+    ensures { λ r. ⌜ r ≡ withRuns line (line .waiting) noRun ⌝ }
 {
-    let line = b.line;
     let waiting = line.waiting;
-    with_line(b, waiting, no_run())
+    with_runs(line, waiting, no_run())
 }
 
-pub(crate) fn section_dropped(b: Book) -> Book
-    requires { ⌜ b .sections .count ≤ 64 ⌝ }
-    ensures { λ r. ⌜ r ≡ bookWith b (taken (standingOf b) drop-section) ⌝ }
+pub(crate) fn section_dropped(line: Line) -> Line
+    ensures { λ r. ⌜ r ≡ withRuns line Nothing noRun ⌝ }
 {
-    with_line(b, Waiting::Nothing, no_run())
+    with_runs(line, Waiting::Nothing, no_run())
 }
 
 // ---- close
 
-pub(crate) fn closed(b: Book, end: i64) -> Book
-    requires { ⌜ b .sections .count ≤ 64 ⌝ }
-    ensures { λ r. ⌜ r ≡ bookWith b (record { line = closedAt (b .line) end; sections = sectionsOf (b .sections) }) ⌝ }
+pub(crate) fn closed(line: Line, end: i64) -> Line
+    ensures { λ r. ⌜ r ≡ closedAt line end ⌝ }
 {
-    let line = b.line;
-    let sections = b.sections;
     let order = line.order;
     let instrument = line.instrument;
     let start = line.start;
     let waiting = line.waiting;
     let present = line.present;
-    let next = Line {
+    Line {
         stage: Stage::Closed,
         order: order,
         instrument: instrument,
@@ -257,9 +219,5 @@ pub(crate) fn closed(b: Book, end: i64) -> Book
         end: end,
         waiting: waiting,
         present: present,
-    };
-    Book {
-        line: next,
-        sections: sections,
     }
 }

@@ -4,12 +4,14 @@ ghost use Rattle.book.specs.Calls.{freshBook};
 use adjust::Answer;
 use adjust::Benchmark;
 use adjust::Point;
+use adjust::Section;
 use adjust::Sections;
 use adjust::Summary;
 use station::Instrument;
 use station::Order;
 
 pub mod calls;
+pub mod changes;
 mod closing;
 mod effects;
 mod refusals;
@@ -50,6 +52,15 @@ pub struct Line {
 pub struct Book {
     pub line: Line,
     pub sections: Sections,
+}
+
+// What a call makes of a book, in which no array is copied: document 01's number, 0 where the call is taken; the line that it leaves; and whether it
+// finishes a section, and which.
+pub struct Change {
+    pub number: u8,
+    pub line: Line,
+    pub finishes: bool,
+    pub section: Section,
 }
 
 // What a call answers, and the book that it leaves: the very book where it is refused.

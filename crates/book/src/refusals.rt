@@ -13,10 +13,10 @@ use super::Line;
 use super::Run;
 use super::Waiting;
 use super::state::began_at;
-use super::state::is_broken;
 use super::state::is_fresh;
 use super::state::is_open;
 use super::state::is_return;
+use super::state::look;
 use super::state::on_line;
 use roots::limits::within;
 
@@ -52,7 +52,15 @@ pub(crate) fn open_refusal(b: Book, order: i64, instrument: i64, number: i64, he
     if input != 0 {
         return input;
     }
-    if is_broken(b) {
+    let seen = look(
+        b.line,
+        b.sections.count,
+        &b.sections.numbers,
+        &b.sections.heights,
+        &b.sections.distances,
+        &b.sections.discrepancies,
+    );
+    if seen.broken {
         return 20;
     }
     let line = b.line;
@@ -61,14 +69,6 @@ pub(crate) fn open_refusal(b: Book, order: i64, instrument: i64, number: i64, he
 }
 
 // ---- station
-
-pub(crate) fn is_shut(b: Book) -> bool
-    requires { ⌜ b .sections .count ≤ 64 ⌝ }
-    ensures { λ r. ⌜ r ≡ isShut (standingOf b) ⌝ }
-{
-    let sections = b.sections;
-    on_line(sections, b.line.start.number)
-}
 
 // Whether the first back staff of a return is the one that ended the outward run.
 fn same_staff(waiting: Waiting, kb: i64) -> bool
@@ -91,8 +91,8 @@ fn out_of_turn(line: Line, kb: i64) -> bool
 }
 
 // The refusal that the state of an unbroken book causes to a station whose readings are not refused.
-fn station_state(b: Book, kb: i64, kf: i64, readings: [[i64; 4]; 2]) -> u8
-    requires { ⌜ (b .sections .count ≤ 64) × (readingRefusal kb kf readings ≡ 0) ⌝ }
+fn station_state(b: Book, shut: bool, kb: i64, kf: i64, readings: [[i64; 4]; 2]) -> u8
+    requires { ⌜ (shut ≡ isShut (standingOf b)) × (readingRefusal kb kf readings ≡ 0) ⌝ }
     ensures { λ r. ⌜ r ≡ firstOf (stateTests (standingOf b) (station kb kf readings)) ⌝ }
 {
     let line = b.line;
@@ -109,7 +109,7 @@ fn station_state(b: Book, kb: i64, kf: i64, readings: [[i64; 4]; 2]) -> u8
     );
     let turn = pick(out_of_turn(line, kb), 23, limits);
     let full = pick(200 <= line.present.count, 22, turn);
-    pick(!is_open(stage) | is_shut(b), 21, full)
+    pick(!is_open(stage) | shut, 21, full)
 }
 
 pub(crate) fn station_refusal(b: Book, kb: i64, kf: i64, readings: [[i64; 4]; 2]) -> u8
@@ -119,10 +119,18 @@ pub(crate) fn station_refusal(b: Book, kb: i64, kf: i64, readings: [[i64; 4]; 2]
     if input != 0 {
         return input;
     }
-    if is_broken(b) {
+    let seen = look(
+        b.line,
+        b.sections.count,
+        &b.sections.numbers,
+        &b.sections.heights,
+        &b.sections.distances,
+        &b.sections.discrepancies,
+    );
+    if seen.broken {
         return 20;
     }
-    station_state(b, kb, kf, readings)
+    station_state(b, seen.shut, kb, kf, readings)
 }
 
 // ---- drop run, and drop section, whose tests are the same
@@ -130,7 +138,15 @@ pub(crate) fn station_refusal(b: Book, kb: i64, kf: i64, readings: [[i64; 4]; 2]
 pub(crate) fn drop_refusal(b: Book) -> u8
     ensures { λ r. ⌜ r ≡ bookRefusal (standingOf b) drop-run ⌝ }
 {
-    if is_broken(b) {
+    let seen = look(
+        b.line,
+        b.sections.count,
+        &b.sections.numbers,
+        &b.sections.heights,
+        &b.sections.distances,
+        &b.sections.discrepancies,
+    );
+    if seen.broken {
         return 20;
     }
     let line = b.line;
@@ -152,7 +168,8 @@ fn number_allowed(b: Book, number: i64) -> bool
         let began = began_at(start, sections);
         return number == began;
     }
-    !on_line(sections, number) & !((number == start) & (sections.count == 0))
+    !on_line(&sections.numbers, sections.count, number)
+        & !((number == start) & (sections.count == 0))
 }
 
 // Whether an outward run and its return, the present run, are too far apart.
@@ -171,8 +188,8 @@ fn too_far(waiting: Waiting, present: Run) -> bool
     }
 }
 
-fn end_state(b: Book, number: i64) -> u8
-    requires { ⌜ broken (standingOf b) ≡ false ⌝ }
+fn end_state(b: Book, shut: bool, number: i64) -> u8
+    requires { ⌜ (broken (standingOf b) ≡ false) × (shut ≡ isShut (standingOf b)) ⌝ }
     ensures { λ r. ⌜ r ≡ firstOf (stateTests (standingOf b) (end-run number)) ⌝ }
 {
     let line = b.line;
@@ -185,7 +202,7 @@ fn end_state(b: Book, number: i64) -> u8
     let place = pick(!number_allowed(b, number), 30, far);
     let full = pick(!is_return(waiting) & (64 <= sections.count), 31, place);
     let odd = pick((count == 0) | (count % 2 == 1), 29, full);
-    pick(!is_open(stage) | is_shut(b), 21, odd)
+    pick(!is_open(stage) | shut, 21, odd)
 }
 
 pub(crate) fn end_refusal(b: Book, number: i64) -> u8
@@ -194,8 +211,16 @@ pub(crate) fn end_refusal(b: Book, number: i64) -> u8
     if !number_in_range(number) {
         return 4;
     }
-    if is_broken(b) {
+    let seen = look(
+        b.line,
+        b.sections.count,
+        &b.sections.numbers,
+        &b.sections.heights,
+        &b.sections.distances,
+        &b.sections.discrepancies,
+    );
+    if seen.broken {
         return 20;
     }
-    end_state(b, number)
+    end_state(b, seen.shut, number)
 }

@@ -2,11 +2,12 @@
 ghost use mathlib.Core.Path.{_≡_};
 ghost use mathlib.Core.List.{map};
 ghost use Prim.Native.Nat.{_≤_};
-ghost use Rattle.numbers.specs.Whole.{anyOf, eqZ, lastOf};
+ghost use lib.ListN.{length};
+ghost use Rattle.numbers.specs.Whole.{lastOf};
 ghost use Rattle.adjust.specs.declared.Section.{Section};
 ghost use Rattle.adjust.specs.Sections.{sectionsOf};
-ghost use Rattle.book.specs.Standing.{standingOf, isFresh, isOpen, isClosed, isReturn, twoWay, runFits, waitingBroken, lineBroken, misplaced, broken};
-use super::Book;
+ghost use Rattle.book.specs.Standing.{isFresh, isOpen, isClosed, isReturn, twoWay, runFits, waitingBroken, lineBroken, misplaced};
+ghost use Rattle.book.specs.Changes.{isAmong, seenIn};
 use super::Line;
 use super::Run;
 use super::Stage;
@@ -54,15 +55,14 @@ pub(crate) fn is_return(waiting: Waiting) -> bool
     }
 }
 
-// Whether a finished section ends on this benchmark.
-pub(crate) fn on_line(s: Sections, number: i64) -> bool
-    requires { ⌜ s .count ≤ 64 ⌝ }
-    ensures { λ r. ⌜ r ≡ anyOf (λ (x : Section). eqZ (x .number) number) (sectionsOf s) ⌝ }
+// Whether this is one of the first count numbers.
+pub(crate) fn on_line(numbers: &[i64], count: usize, number: i64) -> bool
+    requires { ⌜ count ≤ length (now numbers) ⌝ }
+    ensures { λ r. ⌜ r ≡ isAmong count (now (numbers .entry)) number ⌝ }
 {
-    let count = s.count;
     let mut k = 0;
     while k < count {
-        if s.numbers[k] == number {
+        if numbers[k] == number {
             return true;
         }
         k += 1;
@@ -132,13 +132,34 @@ fn is_misplaced(line: Line, count: usize) -> bool
         | (back & !is_two_way(order))
 }
 
-// Whether a record is none that calls can leave (refusal 20).
-pub(crate) fn is_broken(b: Book) -> bool
-    ensures { λ r. ⌜ r ≡ broken (standingOf b) ⌝ }
+// What a call's tests ask of all sections of a book: whether the record is none that calls can leave (refusal 20), and whether the loop is shut.
+pub(crate) struct Seen {
+    pub(crate) broken: bool,
+    pub(crate) shut: bool,
+}
+
+// Of a line and the lists of its sections, which are lent so that no array is copied.
+pub(crate) fn look<'a>(
+    line: Line,
+    count: usize,
+    numbers: &'a [i64],
+    heights: &'a [i64],
+    distances: &'a [i64],
+    discrepancies: &'a [i64],
+) -> Seen
+    requires { ⌜ 64 ≤ length (now numbers) ⌝ }
+    ensures { λ r. ⌜ r ≡ seenIn line count (now (numbers .entry)) (now (heights .entry)) (now (distances .entry)) (now (discrepancies .entry)) ⌝ }
 {
-    let sections = b.sections;
-    let line = b.line;
-    adjust::table::misfits(sections)
-        | line_broken(line, sections.count)
-        | is_misplaced(line, sections.count)
+    let misfit = adjust::table::misfits(count, heights, distances, discrepancies);
+    if misfit | line_broken(line, count) | is_misplaced(line, count) {
+        return Seen {
+            broken: true,
+            shut: false,
+        };
+    }
+    let shut = on_line(numbers, count, line.start.number);
+    Seen {
+        broken: false,
+        shut: shut,
+    }
 }

@@ -2,16 +2,19 @@
 ghost use mathlib.Core.Path.{_≡_};
 ghost use mathlib.Core.List.{_∷_};
 ghost use lib.IntN.{pos};
+ghost use lib.ListN.{set};
+ghost use Rattle.book.specs.Changes.{changed};
 ghost use Rattle.fieldbook.specs.Text.{kindOf};
 ghost use Rattle.fieldbook.specs.State.{lineStep, freshState, withHeading, stateWith, lineAt, lineCount};
 use book::Book;
+use book::Change;
+use book::changes;
 use columns::reader::Kind;
 use columns::reader::Line;
 use columns::reader::Tag;
 use columns::reader::is_heading;
 use columns::reader::parse_line;
-use runner::Step;
-use runner::run_call;
+use runner::change_of;
 
 // What the lines read so far leave: the book, and each line's refusal number in the line's place, 0 where it was taken.
 pub struct State {
@@ -48,18 +51,15 @@ fn call_of(tag: Tag, v: [i64; 10]) -> [i64; 11]
     call
 }
 
-// A line on a book.
-fn step_line(b: Book, line: Line) -> Step
-    ensures { λ r. ⌜ r ≡ lineStep b line ⌝ }
+// What a line makes of a book.
+fn line_change(b: Book, line: Line) -> Change
+    ensures { λ r. ⌜ record { number = r .number; book = changed b r } ≡ lineStep b line ⌝ }
 {
     let kind = line.kind;
     let values = line.values;
     match kind {
-        Kind::Record(tag) => run_call(b, call_of(tag, values)),
-        Kind::Refused(number) => Step {
-            number: number,
-            book: b,
-        },
+        Kind::Record(tag) => change_of(b, call_of(tag, values)),
+        Kind::Refused(number) => changes::moved(number, b.line),
     }
 }
 
@@ -86,6 +86,15 @@ fn take_heading(s: State, line: &[u8]) -> State
     State { book, refusals }
 }
 
+// A line's number into its place, where there is one.
+fn put_number(refusals: &mut [u8], number: usize, refusal: u8)
+    ensures { λ _. ⌜ now (refusals .exit) ≡ set (now (refusals .entry)) number refusal ⌝ }
+{
+    if number < refusals.len() {
+        refusals[number] = refusal;
+    }
+}
+
 // A line of the text and its number: the first is the heading, without which no other is read.
 pub(crate) fn take_line(s: State, line: &[u8], number: usize) -> State
     ensures { λ r. ⌜ r ≡ stateWith s (now (line .entry)) number ⌝ }
@@ -97,12 +106,17 @@ pub(crate) fn take_line(s: State, line: &[u8], number: usize) -> State
     if refusals[1] != 0 {
         return s;
     }
-    let step = step_line(s.book, parse_line(line));
-    let refusal = step.number;
-    let book = step.book;
-    if number < 778 {
-        refusals[number] = refusal;
+    let book = s.book;
+    let c = line_change(book, parse_line(line));
+    put_number(&mut refusals, number, c.number);
+    if c.finishes {
+        let book = changes::change(book, c);
+        return State { book, refusals };
     }
+    // no array is written; a call of `change` here as well would copy all of them once more for each line
+    let line = c.line;
+    let sections = book.sections;
+    let book = Book { line, sections };
     State { book, refusals }
 }
 

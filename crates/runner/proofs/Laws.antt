@@ -9,43 +9,15 @@ use lib.ListN.{length, getD, set, take, drop, length-append}
 use lib.Seq.{drop-cons}
 use lib.IntN.{ℤ, pos}
 use Rattle.numbers.specs.Whole.{eqZ}
-use Rattle.adjust.proofs.Refused.{number-of-answer}
-use Rattle.book.specs.declared.Book.{Book}
-use Rattle.book.specs.declared.Outcome.{Outcome}
-use Rattle.book.specs.declared.CloseOutcome.{CloseOutcome}
-use Rattle.book.specs.Standing.{standingOf}
-use Rattle.book.specs.Rules.{Call, end-run, drop-run, drop-section, bookRefusal}
-use Rattle.book.specs.Calls.{bookAfter, outcome, closingOf, closeNumber, closeOutcome}
+use Rattle.book.specs.Rules.{Call, end-run, drop-run, drop-section}
 use Rattle.ledger.specs.Plain.{Reading, freshReading, after, refusal, refusals, next}
 use Rattle.ledger.proofs.Drops.{after-append}
 use Rattle.ledger.proofs.Whole.{calls-kept}
 use Rattle.ledger.proofs.Traced as Traced
 use Rattle.ledger.proofs.Again.{bookOf}
-use Rattle.runner.specs.declared.Step.{Step}
-use Rattle.runner.specs.Calls.{argument, openOf, stationOf, closeOf, callOf, numbersAt, firstCalls, stepFrom, stepOf, written}
+use Rattle.runner.specs.Calls.{argument, openOf, stationOf, closeOf, callOf, numbersAt, firstCalls, stepOf, written}
 
 -- ---- one call
-
-outcome-step : (b : Book) (c : Call) → stepFrom (outcome b c) ≡ stepOf b c
-unfolding outcome
-outcome-step b c = λ i. record { number = number-of-answer (bookRefusal (standingOf b) c) i; book = bookAfter b c }
-
--- from the outcome of a call to its number and the book left
-pub by-outcome : (b : Book) (c : Call) {o : Outcome} {s : Step} → s ≡ stepFrom o → o ≡ outcome b c → s ≡ stepOf b c
-by-outcome b c e f = e ∙ ap stepFrom f ∙ outcome-step b c
-
--- and from a closing's
-pub by-closing : (b : Book) (xs : List ℤ) (o : CloseOutcome) {n : ℕ} → n ≡ closeNumber (o .answer) → o ≡ closeOutcome b (argument xs 1) (argument xs 2)
-    → record { number = n; book = o .book } ≡ stepOf b (closeOf xs)
-unfolding closeOutcome
-by-closing b xs o e f =
-    let c : Call = closeOf xs in
-    λ i. record {
-      number =
-          (e ∙ ap (λ (x : CloseOutcome). closeNumber (x .answer)) f
-          ∙ Traced.close-number (bookRefusal (standingOf b) c) (closingOf b (argument xs 2) .summary)) i;
-      book = f i .book;
-    }
 
 -- the call of each kind
 module _ (xs : List ℤ) where

@@ -9,9 +9,7 @@ use lib.ListN.{length, getD, take, drop}
 use lib.IntN.{ℤ, pos, negsuc}
 use Rattle.numbers.specs.Whole.{eqZ}
 use Rattle.adjust.specs.Sections.{over}
-use Rattle.adjust.specs.Call.{numberOf}
 use Rattle.book.specs.declared.Book.{Book}
-use Rattle.book.specs.declared.Outcome.{Outcome}
 use Rattle.book.specs.Standing.{standingOf}
 use Rattle.book.specs.Rules.{Call, open-line, station, end-run, drop-run, drop-section, close-line, bookRefusal}
 use Rattle.book.specs.Calls.{bookAfter}
@@ -63,9 +61,6 @@ callsOf xs = firstCalls xs (length xs / 11)
 -- ---- what is answered
 
 -- what a call answers, by document 01's number, and the book that it leaves
-abbrev pub stepFrom : Outcome → Step
-stepFrom o = record { number = numberOf (o .answer); book = o .book }
-
 abbrev pub stepOf : Book → Call → Step
 stepOf b c = record { number = bookRefusal (standingOf b) c; book = bookAfter b c }
 

@@ -3,15 +3,14 @@ ghost use mathlib.Core.Path.{_≡_};
 ghost use Prim.Native.Nat.{_+_, _≤_};
 ghost use lib.ListN.{length, take, drop};
 ghost use Rattle.book.specs.Standing.{bookWith};
-ghost use Rattle.book.specs.Calls.{closeNumber, freshBook};
+ghost use Rattle.book.specs.Calls.{freshBook};
+ghost use Rattle.book.specs.Changes.{Makes};
 ghost use Rattle.ledger.specs.Plain.{freshReading, after, refusals, standing};
-ghost use Rattle.runner.specs.Calls.{openOf, stationOf, closeOf, callOf, callsOf, stepFrom, stepOf, written};
+ghost use Rattle.runner.specs.Calls.{openOf, stationOf, callOf, callsOf, stepOf, written};
 ghost use Rattle.runner.specs.Figures.{bookFigures};
-use adjust::entry::number_of;
 use book::Book;
-use book::CloseAnswer;
-use book::Outcome;
-use book::calls;
+use book::Change;
+use book::changes;
 
 mod figures;
 
@@ -21,78 +20,56 @@ pub struct Step {
     pub book: Book,
 }
 
-fn step_of(o: Outcome) -> Step
-    ensures { λ r. ⌜ r ≡ stepFrom o ⌝ }
+fn open_change(b: Book, call: [i64; 11]) -> Change
+    ensures { λ r. ⌜ Makes b (openOf call) r ⌝ }
 {
-    let answer = o.answer;
-    let number = number_of(answer);
-    let book = o.book;
-    Step {
-        number: number,
-        book: book,
-    }
+    changes::open(b, call[1], call[2], call[3], call[4])
 }
 
-fn close_number(a: CloseAnswer) -> u8
-    ensures { λ r. ⌜ r ≡ closeNumber a ⌝ }
-{
-    match a {
-        CloseAnswer::Closed(_) => 0,
-        CloseAnswer::NotClosed(n) => n,
-    }
-}
-
-fn open_step(b: Book, call: [i64; 11]) -> Step
-    ensures { λ r. ⌜ r ≡ stepOf b (openOf call) ⌝ }
-{
-    step_of(calls::open(b, call[1], call[2], call[3], call[4]))
-}
-
-fn station_step(b: Book, call: [i64; 11]) -> Step
-    ensures { λ r. ⌜ r ≡ stepOf b (stationOf call) ⌝ }
+fn station_change(b: Book, call: [i64; 11]) -> Change
+    ensures { λ r. ⌜ Makes b (stationOf call) r ⌝ }
 {
     let back = [call[2], call[3], call[4], call[5]];
     let fore = [call[7], call[8], call[9], call[10]];
-    step_of(calls::station(b, call[1], call[6], [back, fore]))
+    changes::station(b, call[1], call[6], [back, fore])
 }
 
-fn close_step(b: Book, call: [i64; 11]) -> Step
-    ensures { λ r. ⌜ r ≡ stepOf b (closeOf call) ⌝ }
-{
-    let o = calls::close_line(b, call[1], call[2]);
-    let answer = o.answer;
-    let number = close_number(answer);
-    let book = o.book;
-    Step {
-        number: number,
-        book: book,
-    }
-}
-
-// One call, whatever its numbers.
-pub fn run_call(b: Book, call: [i64; 11]) -> Step
-    ensures { λ r. ⌜ r ≡ stepOf b (callOf call) ⌝ }
+// What a call makes of a book, whatever its numbers.
+pub fn change_of(b: Book, call: [i64; 11]) -> Change
+    ensures { λ r. ⌜ Makes b (callOf call) r ⌝ }
 {
     let kind = call[0];
     if kind == 1 {
-        return open_step(b, call);
+        return open_change(b, call);
     }
     if kind == 2 {
-        return station_step(b, call);
+        return station_change(b, call);
     }
     if kind == 3 {
-        return step_of(calls::end_run(b, call[1]));
+        return changes::end_run(b, call[1]);
     }
     if kind == 4 {
-        return step_of(calls::drop_run(b));
+        return changes::drop_run(b);
     }
     if kind == 5 {
-        return step_of(calls::drop_section(b));
+        return changes::drop_section(b);
     }
     if kind == 6 {
-        return close_step(b, call);
+        return changes::close_line(b, call[1], call[2]);
     }
-    step_of(calls::end_run(b, 0))
+    changes::end_run(b, 0)
+}
+
+// One call.
+pub fn run_call(b: Book, call: [i64; 11]) -> Step
+    ensures { λ r. ⌜ r ≡ stepOf b (callOf call) ⌝ }
+{
+    let c = change_of(b, call);
+    let book = changes::change(b, c);
+    Step {
+        number: c.number,
+        book: book,
+    }
 }
 
 fn numbers_at(s: &[i64], at: usize) -> [i64; 11]

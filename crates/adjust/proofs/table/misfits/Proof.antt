@@ -1,31 +1,47 @@
--- `misfits` meets its contract: the list has as many sections as the arrays count.
-use mathlib.Core.Path.{_≡_, sym, ap, _∙_}
-use mathlib.Core.Bool.{Bool, true, false, not, _||_}
-use Prim.Native.Nat.{ℕ}
-use lib.Dec.{leb}
+-- `misfits` meets its contract: the tests in their order, each after those that failed.
+use mathlib.Core.Path.{sym, _∙_}
 use borrow.Author.Needs.{needs}
 use borrow.Author.Tests.{le-leb, lt-leb}
-use Rattle.adjust.specs.declared.Sections.{Sections}
-use Rattle.adjust.specs.Sections.{sectionsOf, anyOutside, misfit}
-use Rattle.adjust.proofs.Lists.{from-length}
+use Rattle.adjust.proofs.Lent.{too-many, no-heights, no-distances, no-discrepancies, all-there}
 use Rattle.adjust.proofs.table.misfits.Statement.{statement}
 use Rattle.adjust.proofs.table.misfits.Tie as tie
 
-counted : (s : Sections) (t : Bool) → leb (s .count) 64 ≡ t → misfit (sectionsOf s) ≡ not t || anyOutside false (sectionsOf s)
-counted s t e =
-    ap (λ (n : ℕ). not (leb n 64) || anyOutside false (sectionsOf s)) (from-length s 0 (s .count))
-    ∙ ap (λ (b : Bool). not b || anyOutside false (sectionsOf s)) e
-
 returns : tie.Need-returns
-returns c = let s = c .before .before .args .s in sym (counted s false (lt-leb (s .count) 64 (c .if1 .taken)))
+returns c = let s = c .before .args in sym (too-many (s .count) (s .heights .now) (s .distances .now) (s .discrepancies .now) (lt-leb _ _ (c .if1 .taken)))
+
+returns-2 : tie.Need-returns-2
+returns-2 c =
+    let a = c .before in
+    let s = a .before .args in
+    sym (no-heights (s .count) (s .heights .now) (s .distances .now) (s .discrepancies .now) (le-leb _ _ (a .if1 .left)) (lt-leb _ _ (c .if2 .taken)))
+
+returns-3 : tie.Need-returns-3
+returns-3 c =
+    let b = c .before in
+    let a = b .before in
+    let s = a .before .args in
+    sym (no-distances (s .count) (s .heights .now) (s .distances .now) (s .discrepancies .now) (le-leb _ _ (a .if1 .left)) (le-leb _ _ (b .if2 .left)) (lt-leb _ _ (c .if3 .taken)))
+
+returns-4 : tie.Need-returns-4
+returns-4 c =
+    let d = c .before in
+    let b = d .before in
+    let a = b .before in
+    let s = a .before .args in
+    sym (no-discrepancies (s .count) (s .heights .now) (s .distances .now) (s .discrepancies .now) (le-leb _ _ (a .if1 .left)) (le-leb _ _ (b .if2 .left)) (le-leb _ _ (d .if3 .left)) (lt-leb _ _ (c .if4 .taken)))
 
 any-outside-requires : tie.Need-any-outside-requires
 any-outside-requires c κs = search needs
 
-returns-2 : tie.Need-returns-2
-returns-2 c =
-    let s = c .before .before .before .args .s in
-    c .any-outside .ensures ∙ sym (counted s true (le-leb (s .count) 64 (c .before .if1 .left)))
+returns-5 : tie.Need-returns-5
+returns-5 c =
+    let e = c .before in
+    let d = e .before in
+    let b = d .before in
+    let a = b .before in
+    let s = a .before .args in
+    c .any-outside .ensures
+    ∙ sym (all-there (s .count) (s .heights .now) (s .distances .now) (s .discrepancies .now) (le-leb _ _ (a .if1 .left)) (le-leb _ _ (b .if2 .left)) (le-leb _ _ (d .if3 .left)) (le-leb _ _ (e .if4 .left)))
 
 pub misfits-spec : {M : Type 1} → statement M
-misfits-spec = tie.close (tie.spec returns any-outside-requires returns-2)
+misfits-spec = tie.close (tie.spec returns returns-2 returns-3 returns-4 any-outside-requires returns-5)

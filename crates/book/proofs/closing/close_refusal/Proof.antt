@@ -5,9 +5,12 @@ use Rattle.numbers.proofs.Machine.{stored-id, stored-both}
 use Rattle.numbers.proofs.Tests.{not-false}
 use Rattle.numbers.proofs.Tables.{all-fail}
 use Rattle.adjust.specs.Sections.{heightInRange}
+use Rattle.adjust.proofs.Holding.{Whole}
 use Rattle.book.specs.Standing.{standingOf}
+use Rattle.book.specs.Changes.{seenOf}
 use Rattle.book.specs.Rules.{Call, close-line, inputTests, stateTests}
 use Rattle.book.proofs.Parts.{input-refused, broken-refused, state-refused}
+use Rattle.book.proofs.Looked.{seen-lent, saw-broken, saw-shut}
 use borrow.Author.Needs.{needs}
 use Rattle.book.proofs.closing.close_refusal.Statement.{statement}
 use Rattle.book.proofs.closing.close_refusal.Tie as tie
@@ -30,32 +33,43 @@ taken c = sym (number (c .before)) ∙ c .if1 .left
 returns : tie.Need-returns
 returns c =
     let s = c .before .before in
-    input-refused (standingOf (s .args .b)) (call s) (c .before .close-input .result) (number (c .before)) (c .if1 .taken)
+    input-refused (standingOf (s .args .t1)) (call s) (c .before .close-input .result) (number (c .before)) (c .if1 .taken)
 
-is-broken-requires : tie.Need-is-broken-requires
-is-broken-requires c κs = search needs
+whole : (s : tie.Start) → Whole (s .args .t1 .sections)
+whole s = search needs
+
+look-requires : tie.Need-look-requires
+look-requires c κs = search needs
+
+-- what was seen of the book
+seen : (c : tie.After-look) → c .look .result ≡ seenOf (standingOf (c .before .before .before .before .before .before .before .before .before .before .before .before .before .args .t1))
+seen c = let s = c .before .before .before .before .before .before .before .before .before .before .before .before .before in c .look .ensures ∙ seen-lent (s .args .t1) (whole s)
 
 returns-2 : tie.Need-returns-2
 returns-2 c =
-    let e = c .before .before in
+    let k = c .before in
+    let e = k .before .before .before .before .before .before .before .before .before .before .before in
     let s = e .before .before in
-    broken-refused (standingOf (s .args .b)) (call s) (taken e) (sym (c .before .is-broken .ensures) ∙ c .if2 .taken)
+    broken-refused (standingOf (s .args .t1)) (call s) (taken e) (saw-broken (standingOf (s .args .t1)) (k .look .result) (seen k) (c .if2 .taken))
 
 close-state-requires : tie.Need-close-state-requires
 close-state-requires c κs =
-    let e = c .before .before in
-    let s = e .before .before in (
-      sym (c .before .is-broken .ensures) ∙ c .if2 .left,
+    let k = c .before in
+    let e = k .before .before .before .before .before .before .before .before .before .before .before in
+    let s = e .before .before in
+    let v = standingOf (s .args .t1) in (
+      (saw-broken v (k .look .result) (seen k) (c .if2 .left), saw-shut v (k .look .result) (seen k) (c .if2 .left)),
       ap heightInRange (stored-id (s .fits .end)) ∙ not-false (heightInRange (s .args .end)) (all-fail (inputTests (call s)) refl (taken e) .1 .0),
     )
 
 returns-3 : tie.Need-returns-3
 returns-3 c =
-    let k = c .before in
-    let e = k .before .before in
+    let l = c .before in
+    let k = l .before in
+    let e = k .before .before .before .before .before .before .before .before .before .before .before in
     let s = e .before .before in
-    state-refused (standingOf (s .args .b)) (call s) (c .close-state .result) (taken e) (sym (k .before .is-broken .ensures) ∙ k .if2 .left)
-    (c .close-state .ensures ∙ stored-both (λ n h. firstOf (stateTests (standingOf (s .args .b)) (close-line n h))) (s .fits .number) (s .fits .end))
+    state-refused (standingOf (s .args .t1)) (call s) (c .close-state .result) (taken e) (saw-broken (standingOf (s .args .t1)) (k .look .result) (seen k) (l .if2 .left))
+    (c .close-state .ensures ∙ stored-both (λ n h. firstOf (stateTests (standingOf (s .args .t1)) (close-line n h))) (s .fits .number) (s .fits .end))
 
 pub close-refusal-spec : {M : Type 1} → statement M
 close-refusal-spec =
@@ -63,7 +77,7 @@ close-refusal-spec =
     (tie.spec
     close-input-requires
     returns
-    is-broken-requires
+    look-requires
     returns-2
     close-state-requires
     returns-3)

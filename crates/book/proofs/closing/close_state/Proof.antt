@@ -37,7 +37,7 @@ by-flags : (s : tie.Start) (t21 t33 t34 : Bool) → not (isOpen (s .args .b .lin
 by-flags s t21 t33 t34 e f g = λ i. cond (e i) 21 (cond (f i) 33 (cond (g i) 34 (firstOf (lineTests (standingOf (s .args .b)) (s .args .end)))))
 
 whole : (s : tie.Start) → Unbroken (s .args .b)
-whole s = unbroken (s .args .b) (s .pre .0)
+whole s = unbroken (s .args .b) (s .pre .0 .0)
 
 -- ---- 21
 
@@ -77,11 +77,8 @@ returns-2 c =
 
 -- ---- 34
 
-is-shut-requires : tie.Need-is-shut-requires
-is-shut-requires c κs = whole (start-33 (c .before)) .few
-
 began-at-requires : tie.Need-began-at-requires
-began-at-requires c κs = whole (start-33 (c .before .before .before)) .few
+began-at-requires c κs = whole (start-33 (c .before .before)) .few
 
 start-fits : (s : tie.Start) → SFits w64 (s .args .b .line .start .number)
 start-fits s = search needs
@@ -91,12 +88,12 @@ height-fits s = search needs
 
 -- the place after the test of 33
 abbrev ready : tie.After-struct-told2 → tie.Else2
-ready c = c .before .before .before .before .before
+ready c = c .before .before .before .before
 
 not-there :
     (c : tie.After-struct-told2) (t : Bool)
     → not (eqb (ofZ w64 (start-33 (ready c .before) .args .number)) (ofZ w64 (c .before .before .began-at .result)))
-    || (c .before .before .before .before .is-shut .result && not (eqb (ofZ w64 (start-33 (ready c .before) .args .end)) (ofZ w64 (start-33 (ready c .before) .args .b .line .start .height)))) ≡ t
+    || (start-33 (ready c .before) .args .shut && not (eqb (ofZ w64 (start-33 (ready c .before) .args .end)) (ofZ w64 (start-33 (ready c .before) .args .b .line .start .height)))) ≡ t
     → astray (start-33 (ready c .before)) ≡ t
 not-there c t e =
     let s = start-33 (ready c .before) in
@@ -105,7 +102,7 @@ not-there c t e =
     let n = a .began-at .ensures ∙ ap (λ (n : ℤ). lastOf n (map (λ (x : Section). x .number) (sectionsOf (s .args .b .sections)))) (stored-id (start-fits s)) in
     let place = eq-as (s .fits .number) f ∙ ap (eqZ (s .args .number)) n in
     let height = eq-as (s .fits .end) (height-fits s) in
-    sym (λ i. not (place i) || (a .before .before .is-shut .ensures i && not (height i))) ∙ e
+    sym (λ i. not (place i) || (s .pre .0 .1 i && not (height i))) ∙ e
 
 -- 21 and 33 do not apply
 past-33 : (c : tie.After-struct-told2) (t : Bool) → astray (start-33 (ready c .before)) ≡ t
@@ -134,7 +131,7 @@ line-refusal-requires c κs =
     let r = ready (c .before) in
     let s = start-33 (r .before) in (
       ap (λ (z : ℤ). figuresFit (s .args .b .line .start .height) z (sectionsOf (s .args .b .sections))) (stored-id (s .fits .end)) ∙ fit s (not-ready (r .before) false (r .if2 .left)),
-      c .before .before .before .before .before .is-shut .ensures,
+      s .pre .0 .1,
     )
 
 returns-4 : tie.Need-returns-4
@@ -153,7 +150,6 @@ close-state-spec =
     returns
     is-return-requires
     returns-2
-    is-shut-requires
     began-at-requires
     returns-3
     line-refusal-requires

@@ -1,5 +1,5 @@
 -- `both_ways` meets its contract: the sums and differences of two small runs fit.
-use lib.IntN.{ℤ, _+ℤ_, _-ℤ_}
+use lib.IntN.{_+ℤ_, _-ℤ_}
 use Rattle.numbers.proofs.Machine.{stored, stored-id}
 use Rattle.numbers.proofs.Chain.{Value, known, add, sub, fits, kept}
 use Rattle.book.proofs.effects.both_ways.Statement.{statement}

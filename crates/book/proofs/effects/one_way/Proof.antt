@@ -1,5 +1,5 @@
 -- `one_way` meets its contract: twice a small run's sums fit.
-use lib.IntN.{ℤ, pos, _*ℤ_}
+use lib.IntN.{pos, _*ℤ_}
 use Rattle.numbers.proofs.Machine.{stored, stored-id}
 use Rattle.numbers.proofs.Chain.{Value, known, literal, mul, fits, kept}
 use Rattle.book.proofs.effects.one_way.Statement.{statement}

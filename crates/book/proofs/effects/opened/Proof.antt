@@ -1,8 +1,7 @@
--- `opened` meets its contract: a line with no section leaves the arrays as they are.
-use mathlib.Core.Path.{sym, ap, _∙_}
+-- `opened` meets its contract, by those of the order, the instrument and the empty run.
+use mathlib.Core.Path.{ap, _∙_}
 use lib.IntN.{pos}
 use Rattle.numbers.proofs.Machine.{stored-id}
-use Rattle.adjust.proofs.Holding.{holding-none}
 use Rattle.book.specs.declared.Stage.the-variants.{Open}
 use Rattle.book.specs.declared.Waiting.the-variants.{Nothing}
 use Rattle.book.specs.Rules.{orderOf, instrumentOf}
@@ -21,26 +20,20 @@ no-run-requires c κs = search needs
 
 returns : tie.Need-returns
 returns c =
-    let r = c .before in
-    let n = r .before in
+    let n = c .before in
     let o = n .before in
     let s = o .before in
-    let t = s .args .b .sections in
     let order = o .order-of .ensures ∙ ap orderOf (stored-id (s .fits .order)) in
     let instrument = n .instrument-of .ensures ∙ ap instrumentOf (stored-id (s .fits .instrument)) in
     λ i.
     record {
-      line =
-          record {
-            stage = Open;
-            order = order i;
-            instrument = instrument i;
-            start = record { number = stored-id (s .fits .number) i; height = stored-id (s .fits .height) i };
-            end = pos 0;
-            waiting = Nothing;
-            present = r .no-run .ensures i;
-          };
-      sections = sym (holding-none t) i;
+      stage = Open;
+      order = order i;
+      instrument = instrument i;
+      start = record { number = stored-id (s .fits .number) i; height = stored-id (s .fits .height) i };
+      end = pos 0;
+      waiting = Nothing;
+      present = c .no-run .ensures i;
     }
 
 pub opened-spec : {M : Type 1} → statement M

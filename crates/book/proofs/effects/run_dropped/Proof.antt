@@ -1,8 +1,5 @@
--- `run_dropped` meets its contract, by that of `with_line`.
+-- `run_dropped` meets its contract, by that of `with_runs`.
 use mathlib.Core.Path.{ap, _∙_}
-use Rattle.adjust.specs.Sections.{sectionsOf}
-use Rattle.book.specs.declared.Run.{Run}
-use Rattle.book.specs.Standing.{bookWith}
 use Rattle.book.specs.Rules.{withRuns}
 use borrow.Author.Needs.{needs}
 use Rattle.book.proofs.effects.run_dropped.Statement.{statement}
@@ -11,15 +8,14 @@ use Rattle.book.proofs.effects.run_dropped.Tie as tie
 no-run-requires : tie.Need-no-run-requires
 no-run-requires c κs = search needs
 
-with-line-requires : tie.Need-with-line-requires
-with-line-requires c κs = search needs
+with-runs-requires : tie.Need-with-runs-requires
+with-runs-requires c κs = search needs
 
 returns : tie.Need-returns
 returns c =
     let r = c .before in
-    let s = r .before .before in
-    c .with-line .ensures
-    ∙ ap (λ (u : Run). bookWith (s .args .b) (record { line = withRuns (s .args .b .line) (s .args .b .line .waiting) u; sections = sectionsOf (s .args .b .sections) })) (r .no-run .ensures)
+    let line = r .before .args .line in
+    c .with-runs .ensures ∙ ap (withRuns line (line .waiting)) (r .no-run .ensures)
 
 pub run-dropped-spec : {M : Type 1} → statement M
-run-dropped-spec = tie.close (tie.spec no-run-requires with-line-requires returns)
+run-dropped-spec = tie.close (tie.spec no-run-requires with-runs-requires returns)

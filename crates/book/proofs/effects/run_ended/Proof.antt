@@ -15,10 +15,11 @@ use Rattle.adjust.specs.declared.Section.{Section}
 use Rattle.adjust.specs.Sections.{sectionsOf}
 use Rattle.adjust.proofs.Lists.{from-length}
 use Rattle.book.specs.declared.Waiting.{Waiting}
-use Rattle.book.specs.declared.Waiting.the-variants.{Nothing, Outward}
+use Rattle.book.specs.declared.Waiting.the-variants.{Outward}
 use Rattle.book.specs.declared.Book.{Book}
-use Rattle.book.specs.Standing.{Standing, standingOf, bookWith, outwardOrReturn, isReturn, noRun, oneWay, bothWays, twoWay}
-use Rattle.book.specs.Rules.{end-run, stateTests, withRuns, withSection, runEnded}
+use Rattle.book.specs.Standing.{Standing, standingOf, outwardOrReturn, isReturn, noRun, oneWay, bothWays, twoWay}
+use Rattle.book.specs.Rules.{end-run, stateTests, withRuns, withSection}
+use Rattle.book.specs.Changes.{Leaves}
 use Rattle.book.proofs.Parts.{taken-parts}
 use Rattle.book.proofs.Unbroken.{SmallWaiting, Unbroken, unbroken}
 use borrow.Author.Needs.{needs}
@@ -56,8 +57,8 @@ waits w =
 both-ways-requires : tie.Need-both-ways-requires
 both-ways-requires c κs = let w = c .before in (waits w .0, whole (w .before .before .before .before) .present)
 
-with-section-requires : tie.Need-with-section-requires
-with-section-requires c κs = waits (c .before .before) .1
+finished-requires : tie.Need-finished-requires
+finished-requires c κs = waits (c .before .before) .1
 
 -- what an outward run leaves
 abbrev outwardLeft : Book → ℤ → Standing
@@ -66,20 +67,19 @@ outwardLeft b number =
     (withSection (standingOf b) (oneWay number (b .line .present)))
 
 -- the effect, by what waits
-ended : (s : tie.Start) (w : Waiting) → s .args .b .line .waiting ≡ w
-    → bookWith (s .args .b) (runEnded (standingOf (s .args .b)) (s .args .number))
-    ≡ bookWith (s .args .b) (outwardOrReturn w (outwardLeft (s .args .b) (s .args .number)) (λ outward run. withSection (standingOf (s .args .b)) (bothWays outward run (s .args .b .line .present))))
-ended s w e =
-    ap (λ (x : Waiting). bookWith (s .args .b)
-    (outwardOrReturn x (outwardLeft (s .args .b) (s .args .number)) (λ outward run. withSection (standingOf (s .args .b)) (bothWays outward run (s .args .b .line .present))))) e
+abbrev left : tie.Start → Waiting → Standing
+left s w =
+    let b = s .args .b in
+    outwardOrReturn w (outwardLeft b (s .args .number)) (λ outward run. withSection (standingOf b) (bothWays outward run (b .line .present)))
 
 returns : tie.Need-returns
 returns c =
     let k = c .before in
     let s = k .before .before .before .before in
     let b = s .args .b in
-    c .outward-ended .ensures ∙ ap (λ (n : ℤ). bookWith b (outwardLeft b n)) (stored-id (s .fits .number))
-    ∙ sym (ended s Nothing (k .enum-told .given .1))
+    let x = c .outward-ended .result in
+    let leaves = subst (λ (n : ℤ). Leaves b (outwardLeft b n) x) (stored-id (s .fits .number)) (c .outward-ended .ensures) in
+    subst (λ (w : Waiting). Leaves b (left s w) x) (sym (k .enum-told .given .1)) leaves
 
 number-fits : (c : tie.After-known-told) → SFits w64 (c .before .waiting .given .0 .0)
 number-fits c = search needs
@@ -90,8 +90,10 @@ returns-2 c =
     let w = p .before .before in
     let s = w .before .before .before .before in
     let b = s .args .b in
-    c .with-section .ensures ∙ ap (λ (x : Section). bookWith b (withSection (standingOf b) x)) (p .both-ways .ensures ∙ ap (λ (n : ℤ). bothWays n (w .waiting .given .0 .1 .0) (b .line .present)) (stored-id (number-fits (p .before))))
-    ∙ sym (ended s (Outward (w .waiting .given .0 .0) (w .waiting .given .0 .1 .0)) (w .waiting .given .1))
+    let x = c .finished .result in
+    let section = p .both-ways .ensures ∙ ap (λ (n : ℤ). bothWays n (w .waiting .given .0 .1 .0) (b .line .present)) (stored-id (number-fits (p .before))) in
+    let leaves = subst (λ (y : Section). Leaves b (withSection (standingOf b) y) x) section (c .finished .ensures) in
+    subst (λ (v : Waiting). Leaves b (left s v) x) (sym (w .waiting .given .1)) leaves
 
 pub run-ended-spec : {M : Type 1} → statement M
 run-ended-spec =
@@ -101,6 +103,6 @@ run-ended-spec =
     outward-ended-requires
     enum-known-waiting
     both-ways-requires
-    with-section-requires
+    finished-requires
     returns
     returns-2)

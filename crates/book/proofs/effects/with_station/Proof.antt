@@ -1,6 +1,6 @@
 -- `with_station` meets its contract: a small run's sums with one station more fit.
 use Prim.Native.Nat.{_+_}
-use lib.IntN.{ℤ, _+ℤ_}
+use lib.IntN.{_+ℤ_}
 use Rattle.numbers.proofs.Machine.{stored, stored-id}
 use Rattle.numbers.proofs.Chain.{Value, known, add, fits, kept}
 use Rattle.station.specs.declared.Figures.{Figures}

@@ -5,12 +5,10 @@ use Rattle.numbers.proofs.Machine.{stored-id, stored-both}
 use Rattle.station.specs.Bounds.{Small}
 use Rattle.station.specs.Station.{stationOf, figuresOf, noFigures, readingRefusal, figuresIfRead}
 use Rattle.station.proofs.Read.{read, figures-small}
-use Rattle.adjust.specs.Sections.{sectionsOf}
-use Rattle.book.specs.declared.Run.{Run}
-use Rattle.book.specs.Standing.{standingOf, bookWith, withStation}
+use Rattle.book.specs.Standing.{standingOf, withStation}
 use Rattle.book.specs.Rules.{Call, station, withRuns}
 use Rattle.book.proofs.Parts.{taken-parts}
-use Rattle.book.proofs.Unbroken.{Unbroken, unbroken}
+use Rattle.book.proofs.Unbroken.{unbroken}
 use borrow.Author.Needs.{needs}
 use Rattle.book.proofs.effects.with_taken_station.Statement.{statement}
 use Rattle.book.proofs.effects.with_taken_station.Tie as tie
@@ -20,9 +18,6 @@ figures-of-requires c κs = search needs
 
 abbrev call : tie.Start → Call
 call s = station (s .args .kb) (s .args .kf) (s .args .readings)
-
-whole : (s : tie.Start) → Unbroken (s .args .b)
-whole s = unbroken (s .args .b) (taken-parts (standingOf (s .args .b)) (call s) (s .pre) .1)
 
 not-refused : (s : tie.Start) → readingRefusal (s .args .kb) (s .args .kf) (s .args .readings) ≡ 0
 unfolding readingRefusal
@@ -40,20 +35,23 @@ figures-are c =
 with-station-requires : tie.Need-with-station-requires
 with-station-requires c κs =
     let s = c .before .before .before in
-    (whole s .present, subst Small (sym (figures-are c)) (figures-small (read (s .args .kb) (s .args .kf) (s .args .readings) (not-refused s))))
+    let b = s .args .b in (
+      unbroken b (taken-parts (standingOf b) (call s) (s .pre) .1) .present,
+      subst Small (sym (figures-are c)) (figures-small (read (s .args .kb) (s .args .kf) (s .args .readings) (not-refused s))),
+    )
 
-with-line-requires : tie.Need-with-line-requires
-with-line-requires c κs = whole (c .before .before .before .before) .few
+with-runs-requires : tie.Need-with-runs-requires
+with-runs-requires c κs = search needs
 
 returns : tie.Need-returns
 returns c =
     let w = c .before in
     let f = w .before in
     let s = f .before .before .before in
-    let b = s .args .b in
-    let u = w .with-station .ensures ∙ (λ i. withStation (b .line .present) (figures-are f i) (stored-id (s .fits .kf) i)) in
-    c .with-line .ensures ∙ ap (λ (r : Run). bookWith b (record { line = withRuns (b .line) (b .line .waiting) r; sections = sectionsOf (b .sections) })) u
+    let l = s .args .b .line in
+    let u = w .with-station .ensures ∙ (λ i. withStation (l .present) (figures-are f i) (stored-id (s .fits .kf) i)) in
+    c .with-runs .ensures ∙ ap (withRuns l (l .waiting)) u
 
 pub with-taken-station-spec : {M : Type 1} → statement M
 with-taken-station-spec =
-    tie.close (tie.spec figures-of-requires with-station-requires with-line-requires returns)
+    tie.close (tie.spec figures-of-requires with-station-requires with-runs-requires returns)

@@ -5,9 +5,12 @@ use native.Mathlib.Omega.{arith}
 use lib.IntN.{ℤ}
 use Rattle.numbers.specs.Tables.{firstOf}
 use Rattle.numbers.proofs.Machine.{stored-id}
+use Rattle.adjust.proofs.Holding.{Whole}
 use Rattle.book.specs.Standing.{standingOf}
+use Rattle.book.specs.Changes.{seenOf}
 use Rattle.book.specs.Rules.{end-run, numberInRange, inputTests, stateTests}
 use Rattle.book.proofs.Parts.{input-refused, broken-refused, state-refused}
+use Rattle.book.proofs.Looked.{seen-lent, saw-broken, saw-shut}
 use borrow.Author.Needs.{needs}
 use Rattle.book.proofs.refusals.end_refusal.Statement.{statement}
 use Rattle.book.proofs.refusals.end_refusal.Tie as tie
@@ -23,27 +26,39 @@ input c t e =
 returns : tie.Need-returns
 returns c =
     let s = c .before .before in
-    input-refused (standingOf (s .args .b)) (end-run (s .args .number)) 4 (sym (input (c .before) true (c .if1 .taken))) (λ e. absurd (omega arith))
+    input-refused (standingOf (s .args .t1)) (end-run (s .args .number)) 4 (sym (input (c .before) true (c .if1 .taken))) (λ e. absurd (omega arith))
 
-is-broken-requires : tie.Need-is-broken-requires
-is-broken-requires c κs = search needs
+whole : (s : tie.Start) → Whole (s .args .t1 .sections)
+whole s = search needs
+
+look-requires : tie.Need-look-requires
+look-requires c κs = search needs
+
+-- what was seen of the book
+seen : (c : tie.After-look) → c .look .result ≡ seenOf (standingOf (c .before .before .before .before .before .before .before .before .before .before .before .before .before .args .t1))
+seen c = let s = c .before .before .before .before .before .before .before .before .before .before .before .before .before in c .look .ensures ∙ seen-lent (s .args .t1) (whole s)
 
 returns-2 : tie.Need-returns-2
 returns-2 c =
-    let e = c .before .before in
+    let k = c .before in
+    let e = k .before .before .before .before .before .before .before .before .before .before .before in
     let s = e .before .before in
-    broken-refused (standingOf (s .args .b)) (end-run (s .args .number)) (input (e .before) false (e .if1 .left)) (sym (c .before .is-broken .ensures) ∙ c .if2 .taken)
+    broken-refused (standingOf (s .args .t1)) (end-run (s .args .number)) (input (e .before) false (e .if1 .left)) (saw-broken (standingOf (s .args .t1)) (k .look .result) (seen k) (c .if2 .taken))
 
 end-state-requires : tie.Need-end-state-requires
-end-state-requires c κs = sym (c .before .is-broken .ensures) ∙ c .if2 .left
+end-state-requires c κs =
+    let k = c .before in
+    let v = standingOf (k .before .before .before .before .before .before .before .before .before .before .before .before .before .args .t1) in
+    (saw-broken v (k .look .result) (seen k) (c .if2 .left), saw-shut v (k .look .result) (seen k) (c .if2 .left))
 
 returns-3 : tie.Need-returns-3
 returns-3 c =
-    let k = c .before in
-    let e = k .before .before in
+    let l = c .before in
+    let k = l .before in
+    let e = k .before .before .before .before .before .before .before .before .before .before .before in
     let s = e .before .before in
-    state-refused (standingOf (s .args .b)) (end-run (s .args .number)) (c .end-state .result) (input (e .before) false (e .if1 .left)) (sym (k .before .is-broken .ensures) ∙ k .if2 .left)
-    (c .end-state .ensures ∙ ap (λ (n : ℤ). firstOf (stateTests (standingOf (s .args .b)) (end-run n))) (stored-id (s .fits .number)))
+    state-refused (standingOf (s .args .t1)) (end-run (s .args .number)) (c .end-state .result) (input (e .before) false (e .if1 .left)) (saw-broken (standingOf (s .args .t1)) (k .look .result) (seen k) (l .if2 .left))
+    (c .end-state .ensures ∙ ap (λ (n : ℤ). firstOf (stateTests (standingOf (s .args .t1)) (end-run n))) (stored-id (s .fits .number)))
 
 pub end-refusal-spec : {M : Type 1} → statement M
 end-refusal-spec =
@@ -51,7 +66,7 @@ end-refusal-spec =
     (tie.spec
     number-in-range-requires
     returns
-    is-broken-requires
+    look-requires
     returns-2
     end-state-requires
     returns-3)

@@ -13,7 +13,7 @@ use Rattle.book.proofs.refusals.end_state.Statement.{statement}
 use Rattle.book.proofs.refusals.end_state.Tie as tie
 
 whole : (s : tie.Start) → Unbroken (s .args .b)
-whole s = unbroken (s .args .b) (s .pre)
+whole s = unbroken (s .args .b) (s .pre .0)
 
 too-far-requires : tie.Need-too-far-requires
 too-far-requires c κs = let s = c .before .before .before in small-runs (s .args .b) (whole s)
@@ -39,16 +39,12 @@ pick-requires-4 c κs = search needs
 is-open-requires : tie.Need-is-open-requires
 is-open-requires c κs = search needs
 
-is-shut-requires : tie.Need-is-shut-requires
-is-shut-requires c κs = whole (c .before .before .before .before .before .before .before .before .before .before .before .before) .few
-
 pick-requires-5 : tie.Need-pick-requires-5
 pick-requires-5 c κs = search needs
 
 returns : tie.Need-returns
 returns c =
-    let shut = c .before in
-    let opened = shut .before in
+    let opened = c .before in
     let odd = opened .before in
     let full = odd .before in
     let back = full .before .before in
@@ -64,7 +60,7 @@ returns c =
     let e30 = placed .pick2 .ensures ∙ (λ i. cond (not (allowed i)) 30 (e32 i)) in
     let e31 = full .pick3 .ensures ∙ (λ i. cond (not (back .is-return .ensures i) && leb 64 (n i)) 31 (e30 i)) in
     let e29 = odd .pick4 .ensures ∙ (λ i. cond (eqb (b .line .present .count) 0 || eqb (b .line .present .count % 2) 1) 29 (e31 i)) in
-    c .pick5 .ensures ∙ (λ i. cond (not (opened .is-open .ensures i) || shut .is-shut .ensures i) 21 (e29 i))
+    c .pick5 .ensures ∙ (λ i. cond (not (opened .is-open .ensures i) || s .pre .1 i) 21 (e29 i))
 
 pub end-state-spec : {M : Type 1} → statement M
 end-state-spec =
@@ -78,6 +74,5 @@ end-state-spec =
     pick-requires-3
     pick-requires-4
     is-open-requires
-    is-shut-requires
     pick-requires-5
     returns)

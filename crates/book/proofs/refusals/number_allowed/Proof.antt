@@ -13,6 +13,7 @@ use Rattle.adjust.specs.Sections.{sectionsOf}
 use Rattle.book.specs.Standing.{standingOf, isReturn, began, onLine, isEmpty}
 use Rattle.book.specs.Rules.{numberAllowed}
 use Rattle.book.proofs.Unbroken.{empty-count}
+use Rattle.book.proofs.Looked.{among-sections}
 use borrow.Author.Needs.{needs}
 use Rattle.book.proofs.refusals.number_allowed.Statement.{statement}
 use Rattle.book.proofs.refusals.number_allowed.Tie as tie
@@ -47,12 +48,12 @@ on-line-requires c κs = search needs
 
 returns-2 : tie.Need-returns-2
 returns-2 c =
-    let l = c .before in
-    let r = l .before .before in
+    let e = c .before .before .before .before in
+    let r = e .before in
     let s = r .before .before .before .before in
-    let on = l .on-line .ensures ∙ ap (onLine (standingOf (s .args .b))) (stored-id (s .fits .number)) in
+    let on = c .on-line .ensures ∙ among-sections (s .args .b) _ ∙ ap (onLine (standingOf (s .args .b))) (stored-id (s .fits .number)) in
     (λ i. not (on i) && not (eq-as (s .fits .number) (start-fits s) i && sym (empty-count (s .args .b .sections)) i))
-    ∙ sym (allowed s false (sym (r .is-return .ensures) ∙ l .before .if1 .left))
+    ∙ sym (allowed s false (sym (r .is-return .ensures) ∙ e .if1 .left))
 
 pub number-allowed-spec : {M : Type 1} → statement M
 number-allowed-spec =

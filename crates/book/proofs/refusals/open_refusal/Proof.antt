@@ -3,9 +3,12 @@ use mathlib.Core.Path.{_≡_, sym, _∙_}
 use mathlib.Core.Bool.{not, cond}
 use Rattle.numbers.specs.Tables.{firstOf}
 use Rattle.numbers.proofs.Machine.{stored-id}
+use Rattle.adjust.proofs.Holding.{Whole}
 use Rattle.book.specs.Standing.{standingOf}
+use Rattle.book.specs.Changes.{seenOf}
 use Rattle.book.specs.Rules.{Call, open-line, inputTests}
 use Rattle.book.proofs.Parts.{input-refused, broken-refused, state-refused}
+use Rattle.book.proofs.Looked.{seen-lent, saw-broken}
 use borrow.Author.Needs.{needs}
 use Rattle.book.proofs.refusals.open_refusal.Statement.{statement}
 use Rattle.book.proofs.refusals.open_refusal.Tie as tie
@@ -25,16 +28,24 @@ number c =
 returns : tie.Need-returns
 returns c =
     let s = c .before .before in
-    input-refused (standingOf (s .args .b)) (call s) (c .before .open-input .result) (number (c .before)) (c .if1 .taken)
+    input-refused (standingOf (s .args .t1)) (call s) (c .before .open-input .result) (number (c .before)) (c .if1 .taken)
 
-is-broken-requires : tie.Need-is-broken-requires
-is-broken-requires c κs = search needs
+whole : (s : tie.Start) → Whole (s .args .t1 .sections)
+whole s = search needs
+
+look-requires : tie.Need-look-requires
+look-requires c κs = search needs
+
+-- what was seen of the book
+seen : (c : tie.After-look) → c .look .result ≡ seenOf (standingOf (c .before .before .before .before .before .before .before .before .before .before .before .before .before .args .t1))
+seen c = let s = c .before .before .before .before .before .before .before .before .before .before .before .before .before in c .look .ensures ∙ seen-lent (s .args .t1) (whole s)
 
 returns-2 : tie.Need-returns-2
 returns-2 c =
-    let e = c .before .before in
+    let k = c .before in
+    let e = k .before .before .before .before .before .before .before .before .before .before .before in
     let s = e .before .before in
-    broken-refused (standingOf (s .args .b)) (call s) (sym (number (e .before)) ∙ e .if1 .left) (sym (c .before .is-broken .ensures) ∙ c .if2 .taken)
+    broken-refused (standingOf (s .args .t1)) (call s) (sym (number (e .before)) ∙ e .if1 .left) (saw-broken (standingOf (s .args .t1)) (k .look .result) (seen k) (c .if2 .taken))
 
 is-fresh-requires : tie.Need-is-fresh-requires
 is-fresh-requires c κs = search needs
@@ -44,10 +55,11 @@ pick-requires c κs = search needs
 
 returns-3 : tie.Need-returns-3
 returns-3 c =
-    let k = c .before .before .before in
-    let e = k .before .before in
+    let l = c .before .before .before in
+    let k = l .before in
+    let e = k .before .before .before .before .before .before .before .before .before .before .before in
     let s = e .before .before in
-    state-refused (standingOf (s .args .b)) (call s) (c .pick .result) (sym (number (e .before)) ∙ e .if1 .left) (sym (k .before .is-broken .ensures) ∙ k .if2 .left)
+    state-refused (standingOf (s .args .t1)) (call s) (c .pick .result) (sym (number (e .before)) ∙ e .if1 .left) (saw-broken (standingOf (s .args .t1)) (k .look .result) (seen k) (l .if2 .left))
     (c .pick .ensures ∙ (λ i. cond (not (c .before .is-fresh .ensures i)) 21 0))
 
 pub open-refusal-spec : {M : Type 1} → statement M
@@ -56,7 +68,7 @@ open-refusal-spec =
     (tie.spec
     open-input-requires
     returns
-    is-broken-requires
+    look-requires
     returns-2
     is-fresh-requires
     pick-requires

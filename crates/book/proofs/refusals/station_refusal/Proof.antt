@@ -3,10 +3,12 @@ use mathlib.Core.Path.{_≡_, refl, sym, _∙_}
 use Rattle.numbers.specs.Tables.{firstOf}
 use Rattle.numbers.proofs.Machine.{stored-both, holds-stored}
 use Rattle.station.specs.Station.{readingRefusal}
+use Rattle.adjust.proofs.Holding.{Whole}
 use Rattle.book.specs.Standing.{standingOf}
+use Rattle.book.specs.Changes.{seenOf}
 use Rattle.book.specs.Rules.{Call, station, inputTests, stateTests}
 use Rattle.book.proofs.Parts.{input-refused, broken-refused, state-refused}
-use Rattle.book.proofs.Unbroken.{unbroken}
+use Rattle.book.proofs.Looked.{seen-lent, saw-broken, saw-shut}
 use borrow.Author.Needs.{needs}
 use Rattle.book.proofs.refusals.station_refusal.Statement.{statement}
 use Rattle.book.proofs.refusals.station_refusal.Tie as tie
@@ -30,35 +32,45 @@ input s = refl
 returns : tie.Need-returns
 returns c =
     let s = c .before .before in
-    input-refused (standingOf (s .args .b)) (call s) (c .before .reading-refusal .result) (number (c .before) ∙ input s) (c .if1 .taken)
+    input-refused (standingOf (s .args .t1)) (call s) (c .before .reading-refusal .result) (number (c .before) ∙ input s) (c .if1 .taken)
 
-is-broken-requires : tie.Need-is-broken-requires
-is-broken-requires c κs = search needs
+whole : (s : tie.Start) → Whole (s .args .t1 .sections)
+whole s = search needs
+
+look-requires : tie.Need-look-requires
+look-requires c κs = search needs
+
+-- what was seen of the book
+seen : (c : tie.After-look) → c .look .result ≡ seenOf (standingOf (c .before .before .before .before .before .before .before .before .before .before .before .before .before .args .t1))
+seen c = let s = c .before .before .before .before .before .before .before .before .before .before .before .before .before in c .look .ensures ∙ seen-lent (s .args .t1) (whole s)
 
 read : (c : tie.Else1) → readingRefusal (c .before .before .args .kb) (c .before .before .args .kf) (c .before .before .args .readings) ≡ 0
 read c = sym (number (c .before)) ∙ c .if1 .left
 
 returns-2 : tie.Need-returns-2
 returns-2 c =
-    let e = c .before .before in
+    let k = c .before in
+    let e = k .before .before .before .before .before .before .before .before .before .before .before in
     let s = e .before .before in
-    broken-refused (standingOf (s .args .b)) (call s) (sym (input s) ∙ read e) (sym (c .before .is-broken .ensures) ∙ c .if2 .taken)
+    broken-refused (standingOf (s .args .t1)) (call s) (sym (input s) ∙ read e) (saw-broken (standingOf (s .args .t1)) (k .look .result) (seen k) (c .if2 .taken))
 
 station-state-requires : tie.Need-station-state-requires
 station-state-requires c κs =
-    let e = c .before .before in
+    let k = c .before in
+    let e = k .before .before .before .before .before .before .before .before .before .before .before in
     let s = e .before .before in (
-      unbroken (s .args .b) (sym (c .before .is-broken .ensures) ∙ c .if2 .left) .few,
+      saw-shut (standingOf (s .args .t1)) (k .look .result) (seen k) (c .if2 .left),
       holds-stored (λ b f. readingRefusal b f (s .args .readings) ≡ 0) (s .fits .kb) (s .fits .kf) (read e),
     )
 
 returns-3 : tie.Need-returns-3
 returns-3 c =
-    let k = c .before in
-    let e = k .before .before in
+    let l = c .before in
+    let k = l .before in
+    let e = k .before .before .before .before .before .before .before .before .before .before .before in
     let s = e .before .before in
-    state-refused (standingOf (s .args .b)) (call s) (c .station-state .result) (sym (input s) ∙ read e) (sym (k .before .is-broken .ensures) ∙ k .if2 .left)
-    (c .station-state .ensures ∙ stored-both (λ b f. firstOf (stateTests (standingOf (s .args .b)) (station b f (s .args .readings)))) (s .fits .kb) (s .fits .kf))
+    state-refused (standingOf (s .args .t1)) (call s) (c .station-state .result) (sym (input s) ∙ read e) (saw-broken (standingOf (s .args .t1)) (k .look .result) (seen k) (l .if2 .left))
+    (c .station-state .ensures ∙ stored-both (λ b f. firstOf (stateTests (standingOf (s .args .t1)) (station b f (s .args .readings)))) (s .fits .kb) (s .fits .kf))
 
 pub station-refusal-spec : {M : Type 1} → statement M
 station-refusal-spec =
@@ -66,7 +78,7 @@ station-refusal-spec =
     (tie.spec
     reading-refusal-requires
     returns
-    is-broken-requires
+    look-requires
     returns-2
     station-state-requires
     returns-3)

@@ -29,9 +29,6 @@ pick-requires-2 c κs = search needs
 is-open-requires : tie.Need-is-open-requires
 is-open-requires c κs = search needs
 
-is-shut-requires : tie.Need-is-shut-requires
-is-shut-requires c κs = search needs
-
 pick-requires-3 : tie.Need-pick-requires-3
 pick-requires-3 c κs = search needs
 
@@ -51,8 +48,7 @@ limited s =
 
 returns : tie.Need-returns
 returns c =
-    let shut = c .before in
-    let opened = shut .before in
+    let opened = c .before in
     let full = opened .before in
     let turned = full .before .before in
     let turn = turned .before in
@@ -62,7 +58,7 @@ returns c =
     let limit = limits .limit-refusal .ensures ∙ limited s in
     let e23 = turned .pick .ensures ∙ (λ i. cond ((turn .out-of-turn .ensures ∙ ap (outOfTurn l) (stored-id (s .fits .kb))) i) 23 (limit i)) in
     let e22 = full .pick2 .ensures ∙ (λ i. cond (leb 200 (l .present .count)) 22 (e23 i)) in
-    c .pick3 .ensures ∙ (λ i. cond (not (opened .is-open .ensures i) || shut .is-shut .ensures i) 21 (e22 i))
+    c .pick3 .ensures ∙ (λ i. cond (not (opened .is-open .ensures i) || s .pre .0 i) 21 (e22 i))
 
 pub station-state-spec : {M : Type 1} → statement M
 station-state-spec =
@@ -73,6 +69,5 @@ station-state-spec =
     pick-requires
     pick-requires-2
     is-open-requires
-    is-shut-requires
     pick-requires-3
     returns)

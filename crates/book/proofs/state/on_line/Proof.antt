@@ -17,6 +17,7 @@ use Rattle.numbers.proofs.Machine.{stored, stored-id}
 use Rattle.adjust.specs.declared.Section.{Section}
 use Rattle.adjust.specs.declared.Sections.{Sections}
 use Rattle.adjust.specs.Sections.{sectionsOf}
+use Rattle.book.specs.Changes.{numbered, isAmong}
 use Rattle.adjust.proofs.Lists.{remaining, all-remain, next-remains, none-remain}
 use Rattle.book.proofs.state.on_line.Statement.{statement}
 use Rattle.book.proofs.state.on_line.Tie as tie
@@ -30,19 +31,24 @@ step : (number : ℤ) (s : Sections) (k : ℕ) (t : Bool) → k < s .count → e
 step number s k t h e = ap (among number) (next-remains s k h) ∙ ap (λ (b : Bool). b || among number (remaining s (k + 1))) e
 
 abbrev Inv-loop : tie.InvT-loop
-Inv-loop number s count k₀ k = (k ≤ s .count) × (among (toZ w64 number) (sectionsOf s) ≡ among (toZ w64 number) (remaining s k))
+Inv-loop numbers count number k₀ k =
+    (k ≤ count) × (isAmong count numbers (toZ w64 number) ≡ among (toZ w64 number) (remaining (numbered count numbers) k))
 
 abbrev μ-loop : tie.MeasureT-loop
-μ-loop number s count k₀ k = s .count - k
+μ-loop numbers count number k₀ k = count - k
+
+-- the numbers that are lent, as sections
+abbrev sections : tie.Start Inv-loop μ-loop → Sections
+sections s = numbered (s .args .count) (s .args .numbers .now)
 
 loop-holds : tie.Need-loop-holds Inv-loop μ-loop
-loop-holds c = (omega arith, sym (ap (among (stored (c .args .number))) (all-remain (c .args .t1))))
+loop-holds c = (omega arith, sym (ap (among (stored (c .args .number))) (all-remain (sections c))))
 
 mul-if1 : tie.Need-mul-if1 Inv-loop μ-loop
 mul-if1 c = omega arith
 
-element-copy-out-if1 : tie.Need-element-copy-out-if1 Inv-loop μ-loop
-element-copy-out-if1 c = omega arith
+shared-slice-copy-out-if1 : tie.Need-shared-slice-copy-out-if1 Inv-loop μ-loop
+shared-slice-copy-out-if1 c = omega arith
 
 -- what the comparison of bits says of the two numbers
 module _ (c : tie.After-if12 Inv-loop μ-loop) where
@@ -52,26 +58,26 @@ module _ (c : tie.After-if12 Inv-loop μ-loop) where
   abbrev place : ℕ
   place = c .before .before .loop .k
 
-  element-fits : SFits w64 (getD (start .args .t1 .numbers) place (pos 0))
+  element-fits : SFits w64 (getD (start .args .numbers .now) place (pos 0))
   element-fits = search needs
 
   number-is : stored (start .args .number) ≡ start .args .number
   number-is = stored-id (start .fits .number)
 
-  compared : eqZ (getD (start .args .t1 .numbers) place (pos 0)) (stored (start .args .number))
-      ≡ eqb (ofZ w64 (getD (start .args .t1 .numbers) place (pos 0))) (ofZ w64 (start .args .number))
-  compared = ap (eqZ (getD (start .args .t1 .numbers) place (pos 0))) number-is ∙ sym (eq-as element-fits (start .fits .number))
+  compared : eqZ (getD (start .args .numbers .now) place (pos 0)) (stored (start .args .number))
+      ≡ eqb (ofZ w64 (getD (start .args .numbers .now) place (pos 0))) (ofZ w64 (start .args .number))
+  compared = ap (eqZ (getD (start .args .numbers .now) place (pos 0))) number-is ∙ sym (eq-as element-fits (start .fits .number))
 
 -- for the number as it came
-plain : (s : tie.Start Inv-loop μ-loop) → among (stored (s .args .number)) (sectionsOf (s .args .t1)) ≡ among (s .args .number) (sectionsOf (s .args .t1))
-plain s = ap (λ (n : ℤ). among n (sectionsOf (s .args .t1))) (stored-id (s .fits .number))
+plain : (s : tie.Start Inv-loop μ-loop) → among (stored (s .args .number)) (sectionsOf (sections s)) ≡ among (s .args .number) (sectionsOf (sections s))
+plain s = ap (λ (n : ℤ). among n (sectionsOf (sections s))) (stored-id (s .fits .number))
 
 returns : tie.Need-returns Inv-loop μ-loop
 returns c =
     let l = c .before .before .before in
     let s = l .before in
     sym (sym (plain s) ∙ l .loop .inv .1
-    ∙ step (stored (s .args .number)) (s .args .t1) (l .loop .k) true (c .before .before .loop-test .taken) (compared (c .before) ∙ eq-eqb _ _ (c .if1 .taken)))
+    ∙ step (stored (s .args .number)) (sections s) (l .loop .k) true (c .before .before .loop-test .taken) (compared (c .before) ∙ eq-eqb _ _ (c .if1 .taken)))
 
 add-k : tie.Need-add-k Inv-loop μ-loop
 add-k c = omega arith
@@ -85,14 +91,14 @@ loop-again c =
     let s = l .before in (
       omega arith,
       l .loop .inv .1
-          ∙ step (stored (s .args .number)) (s .args .t1) (l .loop .k) false (c .before .before .loop-test .taken) (compared (c .before) ∙ ne-eqb _ _ (c .if1 .left)),
+          ∙ step (stored (s .args .number)) (sections s) (l .loop .k) false (c .before .before .loop-test .taken) (compared (c .before) ∙ ne-eqb _ _ (c .if1 .left)),
     )
 
 returns-2 : tie.Need-returns-2 Inv-loop μ-loop
 returns-2 c =
     let l = c .before in
     let s = l .before in
-    sym (sym (plain s) ∙ l .loop .inv .1 ∙ ap (among (stored (s .args .number))) (none-remain (s .args .t1) (l .loop .k) (c .loop-test .left)))
+    sym (sym (plain s) ∙ l .loop .inv .1 ∙ ap (among (stored (s .args .number))) (none-remain (sections s) (l .loop .k) (c .loop-test .left)))
 
 pub on-line-spec : {M : Type 1} → statement M
 on-line-spec =
@@ -102,7 +108,7 @@ on-line-spec =
     μ-loop
     loop-holds
     mul-if1
-    element-copy-out-if1
+    shared-slice-copy-out-if1
     returns
     add-k
     loop-less

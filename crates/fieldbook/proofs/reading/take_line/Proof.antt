@@ -1,10 +1,12 @@
--- `take_line` meets its contract: a line past the last place leaves the refusals as they are.
+-- `take_line` meets its contract: for line 1, without a heading, and for a record, which may finish a section.
 use mathlib.Core.Path.{_≡_, sym, ap, _∙_}
-use native.Mathlib.Omega.{arith}
-use lib.ListN.{length, set}
-use lib.Seq.{set-out}
+use mathlib.Core.Bool.{false}
+use lib.ListN.{set}
 use Rattle.columns.specs.Records.{lineIn}
-use Rattle.fieldbook.specs.State.{lineStep, withRecord, stateWith}
+use Rattle.book.specs.declared.Book.{Book}
+use Rattle.book.specs.declared.Change.{Change}
+use Rattle.book.specs.Changes.{changed}
+use Rattle.fieldbook.specs.State.{lineStep, stateWith}
 use Rattle.fieldbook.proofs.States.{first-line, no-heading, record-line}
 use borrow.Author.Needs.{needs}
 use Rattle.fieldbook.proofs.reading.take_line.Statement.{statement}
@@ -30,40 +32,50 @@ returns-2 c =
 parse-line-requires : tie.Need-parse-line-requires
 parse-line-requires c κs = search needs
 
-step-line-requires : tie.Need-step-line-requires
-step-line-requires c κs = search needs
+line-change-requires : tie.Need-line-change-requires
+line-change-requires c κs = search needs
 
-array-write-refusals : tie.Need-array-write-refusals
-array-write-refusals c = search needs
+slice-aggregate-put-number : tie.Need-slice-aggregate-put-number
+slice-aggregate-put-number c = search needs
 
--- what the record in the line makes of the book
-module _ (c : tie.After-book) where
+put-number-requires : tie.Need-put-number-requires
+put-number-requires c κs = search needs
+
+change-requires : tie.Need-change-requires
+change-requires c κs = search needs
+
+-- what the line makes of the state, by the change c of the book
+module _ (c : tie.After-refusals3) where
   abbrev began : tie.Start
-  began = c .before .before .before .before .before .before .before
+  began = c .before .before .before .before .before .before .before .before .before .before
 
-  stepped : c .before .step-line .result ≡ lineStep (began .args .s .book) (lineIn (began .args .line .now))
-  stepped = c .before .step-line .ensures ∙ ap (lineStep (began .args .s .book)) (c .before .before .parse-line .ensures)
+  abbrev change : Change
+  change = c .before .before .before .line-change .result
 
-  long : length (began .args .s .refusals) ≡ 778
-  long = search needs
+  stepped : record { number = change .number; book = changed (began .args .s .book) change } ≡ lineStep (began .args .s .book) (lineIn (began .args .line .now))
+  stepped = c .before .before .before .line-change .ensures ∙ ap (lineStep (began .args .s .book)) (c .before .before .before .before .parse-line .ensures)
 
-  with-record : stateWith (began .args .s) (began .args .line .now) (began .args .number) ≡ withRecord (began .args .s) (began .args .line .now) (began .args .number)
+  with-record : record { book = changed (began .args .s .book) change; refusals = set (began .args .s .refusals) (began .args .number) (change .number) }
+      ≡ stateWith (began .args .s) (began .args .line .now) (began .args .number)
   with-record =
-      let e = c .before .before .before in
-      record-line (began .args .s) (began .args .line .now) (began .args .number) (e .before .before .if1 .left) (e .if2 .left)
+      let e = c .before .before .before .before .before .before in
+      (λ i. record { book = stepped i .book; refusals = set (began .args .s .refusals) (began .args .number) (stepped i .number) })
+      ∙ sym (record-line (began .args .s) (began .args .line .now) (began .args .number) (e .before .before .if1 .left) (e .if2 .left))
 
 returns-3 : tie.Need-returns-3
 returns-3 c =
-    let b = c .before in
-    let s = began b in
-    (λ i. record { book = stepped b i .book; refusals = set (s .args .s .refusals) (s .args .number) (stepped b i .number) }) ∙ sym (with-record b)
+    let p = c .before .before in
+    (λ i. record { book = c .change .ensures i; refusals = p .before .put-number .ensures i }) ∙ with-record p
+
+-- a change that finishes no section leaves the arrays as they are
+kept : (b : Book) (x : Change) → x .finishes ≡ false → record { line = x .line; sections = b .sections } ≡ changed b x
+kept b x e = rw (e)
 
 returns-4 : tie.Need-returns-4
 returns-4 c =
-    let b = c .before in
-    let s = began b in
-    let past = set-out (s .args .s .refusals) (s .args .number) (lineStep (s .args .s .book) (lineIn (s .args .line .now)) .number) (omega (arith, long b, c .if3 .left)) in
-    (λ i. record { book = stepped b i .book; refusals = sym past i }) ∙ sym (with-record b)
+    let e = c .before .before in
+    let p = e .before in
+    (λ i. record { book = kept (began p .args .s .book) (change p) (e .if3 .left) i; refusals = p .before .put-number .ensures i }) ∙ with-record p
 
 pub take-line-spec : {M : Type 1} → statement M
 take-line-spec =
@@ -74,7 +86,9 @@ take-line-spec =
     array-read-if2
     returns-2
     parse-line-requires
-    step-line-requires
-    array-write-refusals
+    line-change-requires
+    slice-aggregate-put-number
+    put-number-requires
+    change-requires
     returns-3
     returns-4)

@@ -1,15 +1,11 @@
--- `open_step` meets its contract.
-use mathlib.Core.Path.{_∙_}
+-- `open_change` meets its contract.
 use mir.Syntax.{w64}
 use mir.Val.{SFits}
-use Rattle.numbers.proofs.Machine.{stored-id}
-use Rattle.book.specs.Rules.{open-line}
-use Rattle.book.specs.Calls.{outcome}
-use Rattle.runner.specs.Calls.{argument, openOf}
-use Rattle.runner.proofs.Laws.{by-outcome}
+use Rattle.book.proofs.Joined.{open-as, makes-as}
+use Rattle.runner.specs.Calls.{argument}
 use borrow.Author.Needs.{needs}
-use Rattle.runner.proofs.open_step.Statement.{statement}
-use Rattle.runner.proofs.open_step.Tie as tie
+use Rattle.runner.proofs.open_change.Statement.{statement}
+use Rattle.runner.proofs.open_change.Tie as tie
 
 array-copy-out-open : tie.Need-array-copy-out-open
 array-copy-out-open c = search needs
@@ -26,9 +22,6 @@ array-copy-out-open-4 c = search needs
 open-requires : tie.Need-open-requires
 open-requires c κs = search needs
 
-step-of-requires : tie.Need-step-of-requires
-step-of-requires c κs = search needs
-
 first : (c : tie.After-open-arg) → SFits w64 (argument (c .before .args .t2) 1)
 first c = search needs
 
@@ -43,14 +36,11 @@ fourth c = search needs
 
 returns : tie.Need-returns
 returns c =
-    let a = c .before .before in
-    let s = a .before .before .before .before in
-    by-outcome (s .args .b) (openOf (s .args .t2)) (c .step-of .ensures)
-    (c .before .«open» .ensures
-    ∙ (λ i. outcome (s .args .b) (open-line (stored-id (first (a .before .before .before)) i) (stored-id (second (a .before .before)) i) (stored-id (third (a .before)) i) (stored-id (fourth a) i))))
+    let a = c .before in
+    makes-as (a .before .before .before .before .args .b) (open-as (first (a .before .before .before)) (second (a .before .before)) (third (a .before)) (fourth a)) (c .«open» .result) (c .«open» .ensures)
 
-pub open-step-spec : {M : Type 1} → statement M
-open-step-spec =
+pub open-change-spec : {M : Type 1} → statement M
+open-change-spec =
     tie.close
     (tie.spec
     array-copy-out-open
@@ -58,5 +48,4 @@ open-step-spec =
     array-copy-out-open-3
     array-copy-out-open-4
     open-requires
-    step-of-requires
     returns)

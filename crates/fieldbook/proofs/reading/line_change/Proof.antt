@@ -1,15 +1,16 @@
--- `step_line` meets its contract.
+-- `line_change` meets its contract, for a record and for a line that is none.
 use mathlib.Core.Path.{_≡_, sym, ap, _∙_}
 use mathlib.Core.List.{List}
 use lib.IntN.{ℤ}
 use Rattle.columns.specs.declared.reader.Kind.{Kind}
 use Rattle.columns.specs.declared.reader.Line.{Line}
 use Rattle.book.specs.declared.Book.{Book}
+use Rattle.book.specs.Changes.{changed}
 use Rattle.runner.specs.Calls as Calls
 use Rattle.fieldbook.specs.State.{lineStep}
 use borrow.Author.Needs.{needs}
-use Rattle.fieldbook.proofs.reading.step_line.Statement.{statement}
-use Rattle.fieldbook.proofs.reading.step_line.Tie as tie
+use Rattle.fieldbook.proofs.reading.line_change.Statement.{statement}
+use Rattle.fieldbook.proofs.reading.line_change.Tie as tie
 
 enum-known-kind : tie.Need-enum-known-kind
 enum-known-kind c = search needs
@@ -17,8 +18,8 @@ enum-known-kind c = search needs
 call-of-requires : tie.Need-call-of-requires
 call-of-requires c κs = search needs
 
-run-call-requires : tie.Need-run-call-requires
-run-call-requires c κs = search needs
+change-of-requires : tie.Need-change-of-requires
+change-of-requires c κs = search needs
 
 enum-known-kind-2 : tie.Need-enum-known-kind-2
 enum-known-kind-2 c = search needs
@@ -30,22 +31,28 @@ returns : tie.Need-returns
 returns c =
     let k = c .before .before .before in
     let s = k .before .before .before in
-    c .run-call .ensures ∙ ap (λ (x : List ℤ). Calls.stepOf (s .args .b) (Calls.callOf x)) (c .before .call-of .ensures)
+    let m = c .change-of .ensures in
+    (λ i. record { number = m .0 i; book = m .1 i }) ∙ ap (λ (x : List ℤ). Calls.stepOf (s .args .b) (Calls.callOf x)) (c .before .call-of .ensures)
     ∙ sym (of-kind (s .args .b) (s .args .line) _ (k .kind .given .1))
+
+moved-requires : tie.Need-moved-requires
+moved-requires c κs = search needs
 
 returns-2 : tie.Need-returns-2
 returns-2 c =
-    let k = c .before in
+    let k = c .before .before in
     let s = k .before .before .before in
-    sym (of-kind (s .args .b) (s .args .line) _ (k .kind2 .given .1))
+    (λ i. record { number = c .moved .ensures i .number; book = changed (s .args .b) (c .moved .ensures i) })
+    ∙ sym (of-kind (s .args .b) (s .args .line) _ (k .kind2 .given .1))
 
-pub step-line-spec : {M : Type 1} → statement M
-step-line-spec =
+pub line-change-spec : {M : Type 1} → statement M
+line-change-spec =
     tie.close
     (tie.spec
     enum-known-kind
     call-of-requires
-    run-call-requires
+    change-of-requires
     enum-known-kind-2
+    moved-requires
     returns
     returns-2)

@@ -1,16 +1,14 @@
--- `station_step` meets its contract.
-use mathlib.Core.Path.{_∙_}
+-- `station_change` meets its contract.
 use mathlib.Core.List.{[], _∷_}
 use mir.Syntax.{w64}
 use mir.Val.{SFits}
 use Rattle.numbers.proofs.Machine.{stored-id}
 use Rattle.book.specs.Rules.{station}
-use Rattle.book.specs.Calls.{outcome}
-use Rattle.runner.specs.Calls.{argument, stationOf}
-use Rattle.runner.proofs.Laws.{by-outcome}
+use Rattle.book.proofs.Joined.{makes-as}
+use Rattle.runner.specs.Calls.{argument}
 use borrow.Author.Needs.{needs}
-use Rattle.runner.proofs.station_step.Statement.{statement}
-use Rattle.runner.proofs.station_step.Tie as tie
+use Rattle.runner.proofs.station_change.Statement.{statement}
+use Rattle.runner.proofs.station_change.Tie as tie
 
 array-copy-out-station : tie.Need-array-copy-out-station
 array-copy-out-station c = search needs
@@ -45,9 +43,6 @@ array-copy-out-station-6 c = search needs
 station-requires : tie.Need-station-requires
 station-requires c κs = search needs
 
-step-of-requires : tie.Need-step-of-requires
-step-of-requires c κs = search needs
-
 second : (c : tie.After-station-arg) → SFits w64 (argument (c .before .args .t2) 2)
 second c = search needs
 
@@ -80,17 +75,16 @@ sixth c = search needs
 
 returns : tie.Need-returns
 returns c =
-    let a = c .before .before in
+    let a = c .before in
     let s = a .before .before .before .before .before .before .before .before .before .before in
-    by-outcome (s .args .b) (stationOf (s .args .t2)) (c .step-of .ensures)
-    (c .before .station .ensures
-    ∙ (λ i. outcome (s .args .b)
-    (station (stored-id (first (a .before)) i) (stored-id (sixth a) i)
+    makes-as (s .args .b)
+    (λ i. station (stored-id (first (a .before)) i) (stored-id (sixth a) i)
     ((stored-id (second (a .before .before .before .before .before .before .before .before .before)) i ∷ stored-id (third (a .before .before .before .before .before .before .before .before)) i ∷ stored-id (fourth (a .before .before .before .before .before .before .before)) i ∷ stored-id (fifth (a .before .before .before .before .before .before)) i ∷ [])
-    ∷ (stored-id (seventh (a .before .before .before .before .before)) i ∷ stored-id (eighth (a .before .before .before .before)) i ∷ stored-id (ninth (a .before .before .before)) i ∷ stored-id (tenth (a .before .before)) i ∷ []) ∷ []))))
+    ∷ (stored-id (seventh (a .before .before .before .before .before)) i ∷ stored-id (eighth (a .before .before .before .before)) i ∷ stored-id (ninth (a .before .before .before)) i ∷ stored-id (tenth (a .before .before)) i ∷ []) ∷ []))
+    (c .station .result) (c .station .ensures)
 
-pub station-step-spec : {M : Type 1} → statement M
-station-step-spec =
+pub station-change-spec : {M : Type 1} → statement M
+station-change-spec =
     tie.close
     (tie.spec
     array-copy-out-station
@@ -104,5 +98,4 @@ station-step-spec =
     array-copy-out-station-5
     array-copy-out-station-6
     station-requires
-    step-of-requires
     returns)

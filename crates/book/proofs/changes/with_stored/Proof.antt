@@ -7,8 +7,8 @@ use mir.Val.{SFits}
 use Rattle.numbers.proofs.Machine.{stored-id}
 use Rattle.adjust.proofs.Holding.{Whole, holding-more}
 use borrow.Author.Needs.{needs}
-use Rattle.book.proofs.effects.with_stored.Statement.{statement}
-use Rattle.book.proofs.effects.with_stored.Tie as tie
+use Rattle.book.proofs.changes.with_stored.Statement.{statement}
+use Rattle.book.proofs.changes.with_stored.Tie as tie
 
 mul-number : tie.Need-mul-number
 mul-number c = search needs
@@ -50,7 +50,7 @@ discrepancy-fits : (s : tie.Start) → SFits w64 (s .args .x .discrepancy)
 discrepancy-fits s = search needs
 
 whole : (s : tie.Start) → Whole (s .args .s)
-whole s = record { numbers = search needs; heights = search needs; distances = search needs; discrepancies = search needs }
+whole s = search needs
 
 returns : tie.Need-returns
 returns c =
