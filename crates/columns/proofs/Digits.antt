@@ -4,7 +4,7 @@ use mathlib.Core.Bool.{Bool, true, false, cond}
 use mathlib.Core.List.{List, [], _∷_, _++_, append-assoc, append-nil}
 use Prim.Native.Nat.{ℕ, zero, suc, _+_, _-_, _*_, _/_, _%_, _^_, _≤_, _<_}
 use native.Mathlib.Decide.{decLt}
-use native.Mathlib.Nat.{pow-suc, one-le-pow}
+use native.Mathlib.Nat.{pow-suc}
 use native.Mathlib.Omega.{arith}
 use borrow.Author.Tests.{lt-ltb, le-ltb, le-leb, leb-true}
 use lib.Dec.{leb}
@@ -143,13 +143,6 @@ digits-below (suc k) n p h =
     some : (k : ℕ) → n / 10 < 10 ^ k → 10 ≤ n → 0 < k
     some zero q l = absurd (omega arith)
     some (suc k) q l = omega arith
-
--- and only such a number has
-pub digits-bound : (k n : ℕ) → length (digits n) ≤ k → n < 10 ^ k
-digits-bound zero n h = absurd (omega (arith, digits-some n))
-digits-bound (suc k) n h =
-    one-or-more n (λ s. omega (arith, pow-suc 10 k, one-le-pow k 10 (omega arith)))
-    (λ l. omega (arith, pow-suc 10 k, length-large n l, digits-bound k (n / 10) (omega (arith, length-large n l))))
 
 -- a number of 64 bits has at most twenty
 pub digits-word : (n : ℕ) → n < 18446744073709551616 → length (digits n) ≤ 20

@@ -3,7 +3,6 @@ use mathlib.Core.Path.{_≡_, refl, sym, ap, _∙_}
 use mathlib.Core.Bool.{Bool, true, false, cond}
 use mathlib.Core.List.{List, [], _∷_, _++_, append-nil}
 use Prim.Native.Nat.{ℕ, zero, suc, _+_, _-_, _^_, _≤_, _<_}
-use native.Mathlib.Nat.{one-le-pow}
 use native.Mathlib.Omega.{arith}
 use borrow.Author.Tests.{le-leb, leb-true, ne-eqb}
 use lib.IntN.{ℤ, pos, negsuc, negℤ, natAbs}
@@ -17,7 +16,7 @@ use Rattle.columns.specs.Decimals.{blanks, digits, decimal, fitsIn, pad,
 use Rattle.columns.specs.Parser.{isDigit, allDigits}
 use Rattle.columns.proofs.Lists.{left-next, left-none}
 use Rattle.columns.proofs.Compare.{both, same-true, same-equal}
-use Rattle.columns.proofs.Digits.{digit-range, all-digits, value-digits, digits-below, digits-bound}
+use Rattle.columns.proofs.Digits.{digit-range, all-digits, value-digits, digits-below}
 
 -- ---- by sign
 
@@ -64,11 +63,6 @@ pub fits-within : (k : ℕ) (z : ℤ) → 0 < k → posPart z < 10 ^ suc k → n
 unfolding fitsIn decimal
 fits-within k (pos n) p h g = le-leb (length (digits n)) (suc k) (digits-below (suc k) n (omega arith) h)
 fits-within k (negsuc n) p h g = le-leb (suc (length (digits (suc n)))) (suc k) (omega (arith, digits-below k (suc n) p g))
-
-pub within-fits : (k : ℕ) (z : ℤ) → fitsIn (suc k) z ≡ true → (posPart z < 10 ^ suc k) × (negPart z < 10 ^ k)
-unfolding fitsIn decimal
-within-fits k (pos n) h = (digits-bound (suc k) n (leb-true (length (digits n)) (suc k) h), omega (arith, one-le-pow k 10 (omega arith)))
-within-fits k (negsuc n) h = (omega (arith, one-le-pow (suc k) 10 (omega arith)), digits-bound k (suc n) (omega (arith, leb-true (suc (length (digits (suc n)))) (suc k) h)))
 
 -- ---- the candidate is the number that was written
 

@@ -24,7 +24,6 @@ use Rattle.columns.specs.Records.{letters, tags, tagAmong, fieldCount, allNumbe
 use Rattle.columns.specs.Texts.{lines}
 use Rattle.columns.proofs.Lines.{length-line, length-title}
 use Rattle.book.specs.Standing.{Standing, isClosed}
-use Rattle.book.specs.Rules as Rules
 use Rattle.book.specs.Rules.{Call, open-line, station, end-run, drop-run, drop-section, close-line, inputTests, stateTests}
 use Rattle.ledger.specs.Plain.{Reading, freshReading, after, standing, sectionOf, figuresOf}
 use Rattle.fieldbook.specs.Text.{Refusal, callOf, lineRefusal, lineNext, lineRefusals, readingAfter, callsOf, refusalsFrom}

@@ -10,7 +10,7 @@ use lib.Signed.{mag, _≤ℤ_, _<ℤ_, ltZ, leZ, quotZ, remZ, nonNeg, yes-nonNeg
 use mir.Syntax.{w64}
 use mir.Val.{Fits, SFits, toZ, ofZ, boolByte}
 use mir.Facts.{toZ-pos, toZ-ofZ}
-use Rattle.numbers.proofs.Parts.{test-lt, test-ge, test-le, test-gt}
+use Rattle.numbers.proofs.Parts.{test-lt, test-ge}
 
 -- what the machine reads back from the bits of z
 abbrev pub stored : ℤ → ℤ
@@ -101,9 +101,3 @@ branch-lt e f t = test-lt (sym (lt-as e f) ∙ t)
 
 pub branch-ge : {a b x y : ℤ} → a ≡ x → b ≡ y → ltZ a b ≡ false → y ≤ℤ x
 branch-ge e f t = test-ge (sym (lt-as e f) ∙ t)
-
-pub branch-le : {a b x y : ℤ} → a ≡ x → b ≡ y → leZ a b ≡ true → x ≤ℤ y
-branch-le e f t = test-le (sym (le-as e f) ∙ t)
-
-pub branch-gt : {a b x y : ℤ} → a ≡ x → b ≡ y → leZ a b ≡ false → y <ℤ x
-branch-gt e f t = test-gt (sym (le-as e f) ∙ t)

@@ -87,11 +87,7 @@ parts-lt {a = negsuc a} {b = negsuc b} h = record { lt = lt→ltb b a (omega ari
 -- for omega: reads and proves orders of integers
 pub ruleset ints = (arith, le-parts, parts-le, lt-parts, parts-lt)
 
--- of a number whose sign is known, one part is 0
-pub no-negPart : {z : ℤ} → pos 0 ≤ℤ z → negPart z ≡ 0
-no-negPart {z = pos n} h = refl
-no-negPart {z = negsuc n} h = absurd (h .le)
-
+-- a number below 0 has no positive part
 pub no-posPart : {z : ℤ} → z <ℤ pos 0 → posPart z ≡ 0
 no-posPart {z = pos n} h = omega ints
 no-posPart {z = negsuc n} h = refl
@@ -119,12 +115,6 @@ test-gt {a} {b} e = go (decLe (posPart a + negPart b) (posPart b + negPart a))
     go : Dec (posPart a + negPart b ≤ posPart b + negPart a) → b <ℤ a
     go (yes p) = absurd (not-both (leZ-true {a = a} {b = b} (parts-le p)) e)
     go (no f) = omega ints
-
-pub ltZ-true : {a b : ℤ} → a <ℤ b → ltZ a b ≡ true
-ltZ-true h = is-true (h .lt)
-
-pub ltZ-false : {a b : ℤ} → b ≤ℤ a → ltZ a b ≡ false
-ltZ-false {a} {b} h = by-test (ltZ a b) (λ t. t ≡ false) (λ t. clashℤ (ltZ-yes t) h) (λ t. refl)
 
 -- an integer that is not negative is its magnitude
 pub pos-abs : {z : ℤ} → pos 0 ≤ℤ z → pos (natAbs z) ≡ z

@@ -87,7 +87,3 @@ cancel-3′ a b c d e = ap (λ (x : ℤ). a +ℤ (b +ℤ (c +ℤ x))) (add-left-
 
 -- for simp: multiplies out, sorts and cancels. It does not gather a + a into 2 × a, and stops at calls that compute: state an identity over variables
 pub ruleset ringℤ = (add-mulℤ, mul-addℤ, neg-mulℤ, mul-negℤ, negℤ-+ℤ, negℤ-negℤ, mul-assocℤ, *ℤ-comm, mul-left-commℤ, +ℤ-assoc, +ℤ-comm, add-left-commℤ, +ℤ-invr, +ℤ-invl, cancel, cancel′, cancel-1, cancel-1′, cancel-2, cancel-2′, cancel-3, cancel-3′, +ℤ-idl, +ℤ-idr)
-
--- two differences from one number
-pub sub-subℤ : (a b c : ℤ) → (a -ℤ c) -ℤ (b -ℤ c) ≡ a -ℤ b
-sub-subℤ a b c = simp ringℤ
