@@ -19,26 +19,38 @@ unfolding sectionsFrom
 any-alike f s t e k zero = refl
 any-alike f s t e k (suc n) = λ i. e k i || any-alike f s t e (k + 1) n i
 
--- the tests of a misfit in their order, each after those that fail
+-- how many sections there are is told by the count
+counted : (s : Sections) {t : Bool} → leb (s .count) 64 ≡ t → misfit (sectionsOf s) ≡ not t || anyOutside false (sectionsOf s)
+counted s e = λ i. not ((ap (λ (n : ℕ). leb n 64) (from-length s 0 (s .count)) ∙ e) i) || anyOutside false (sectionsOf s)
+
+-- the tests of a misfit, each after those that fail
 module _ (count : ℕ) (hs ds es : List ℤ) where
   abbrev Room : List ℤ → Bool → Type 0
   Room xs t = leb count (length xs) ≡ t
 
   pub too-many : leb count 64 ≡ false → misfitIn count hs ds es ≡ true
-  too-many e = rw (e)
+  too-many e =
+      let short = not (leb count (length hs)) || not (leb count (length ds)) || not (leb count (length es)) in
+      ap (λ (t : Bool). short || t) (counted (lent count hs ds es) e) ∙ always short
+    where
+      always : (t : Bool) → t || true ≡ true
+      always true = refl
+      always false = refl
 
-  module _ (few : leb count 64 ≡ true) where
-    pub no-heights : Room hs false → misfitIn count hs ds es ≡ true
-    no-heights e = rw (few, e)
+  pub no-heights : Room hs false → misfitIn count hs ds es ≡ true
+  no-heights e = rw (e)
 
-    pub no-distances : Room hs true → Room ds false → misfitIn count hs ds es ≡ true
-    no-distances h e = rw (few, h, e)
+  pub no-distances : Room hs true → Room ds false → misfitIn count hs ds es ≡ true
+  no-distances h e = rw (h, e)
 
-    pub no-discrepancies : Room hs true → Room ds true → Room es false → misfitIn count hs ds es ≡ true
-    no-discrepancies h d e = rw (few, h, d, e)
+  pub no-discrepancies : Room hs true → Room ds true → Room es false → misfitIn count hs ds es ≡ true
+  no-discrepancies h d e = rw (h, d, e)
 
-    pub all-there : Room hs true → Room ds true → Room es true → misfitIn count hs ds es ≡ anyOutside false (sectionsOf (lent count hs ds es))
-    all-there h d e = rw (few, h, d, e)
+  fits : Room hs true → Room ds true → Room es true → misfitIn count hs ds es ≡ misfit (sectionsOf (lent count hs ds es))
+  fits h d e = rw (h, d, e)
+
+  pub all-there : leb count 64 ≡ true → Room hs true → Room ds true → Room es true → misfitIn count hs ds es ≡ anyOutside false (sectionsOf (lent count hs ds es))
+  all-there few h d e = fits h d e ∙ counted (lent count hs ds es) few
 
 module _ (s : Sections) where
   -- the ranges do not look at a section's number
@@ -48,17 +60,12 @@ module _ (s : Sections) where
   pub misfit-lent : Whole s → misfitIn (s .count) (s .heights) (s .distances) (s .discrepancies) ≡ misfit (sectionsOf s)
   misfit-lent w = go (leb (s .count) 64) refl
     where
-      counted : {t : Bool} → leb (s .count) 64 ≡ t → misfit (sectionsOf s) ≡ not t || anyOutside false (sectionsOf s)
-      counted {t} e =
-          ap (λ (n : ℕ). not (leb n 64) || anyOutside false (sectionsOf s)) (from-length s 0 (s .count))
-          ∙ ap (λ (b : Bool). not b || anyOutside false (sectionsOf s)) e
-
       placed : (xs : List ℤ) → length xs ≡ 64 → leb (s .count) 64 ≡ true → leb (s .count) (length xs) ≡ true
       placed xs long e = ap (leb (s .count)) long ∙ e
 
       go : (t : Bool) → leb (s .count) 64 ≡ t → misfitIn (s .count) (s .heights) (s .distances) (s .discrepancies) ≡ misfit (sectionsOf s)
-      go false e = too-many (s .count) (s .heights) (s .distances) (s .discrepancies) e ∙ sym (counted e)
+      go false e = too-many (s .count) (s .heights) (s .distances) (s .discrepancies) e ∙ sym (counted s e)
       go true e =
           all-there (s .count) (s .heights) (s .distances) (s .discrepancies) e (placed (s .heights) (w .heights) e) (placed (s .distances) (w .distances) e)
           (placed (s .discrepancies) (w .discrepancies) e)
-          ∙ outside-lent false ∙ sym (counted e)
+          ∙ outside-lent false ∙ sym (counted s e)

@@ -1,5 +1,5 @@
--- What callers cite: Lines, the adjustment's theorem in any units; Refused and Legs, the adjustment call; Lists, Lent, Sized and Bounded, sections in arrays and
--- the sizes of their figures; Walks, steps of proofs by hand. Over and LegArray serve the adjustment call.
+-- What callers cite: Lines, the adjustment's theorem in any units; Refused and Legs, the adjustment call; Lists, Holding, Lent, Sized and Bounded, sections in arrays
+-- and the sizes of their figures; Walks, steps of proofs by hand. Over and LegArray serve the adjustment call.
 pub mod Lines
 pub mod Lists
 pub mod Bounded

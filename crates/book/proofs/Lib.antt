@@ -1,4 +1,5 @@
--- What the calls' proofs and the crates above cite: the parts of a refusal, what an unbroken book is bounded by, and how a call's outcome is joined.
+-- What the proofs of functions and the crates above cite: the parts of a refusal, what an unbroken book is bounded by, what is seen of its sections, how a
+-- call's change and outcome are joined, and the figures of a line that may be closed.
 pub mod Parts
 pub mod Unbroken
 pub mod Looked

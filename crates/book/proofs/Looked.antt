@@ -3,21 +3,26 @@ use mathlib.Core.Path.{_≡_, refl, sym, ap, _∙_}
 use mathlib.Core.Bool.{Bool, true, false, not, _&&_, _||_}
 use mathlib.Core.List.{List}
 use Prim.Native.Nat.{ℕ, _≤_}
+use native.Mathlib.Omega.{arith}
 use lib.Dec.{leb, leb→le}
 use lib.ListN.{length}
 use lib.IntN.{ℤ}
 use Rattle.numbers.specs.Whole.{eqZ}
-use Rattle.numbers.proofs.Tests.{holds, or-l, not-false}
+use Rattle.numbers.proofs.Tests.{holds, or-l, or-r, not-false}
 use Rattle.adjust.specs.declared.Section.{Section}
-use Rattle.adjust.specs.Sections.{sectionsOf, lent, anyOutside, misfitIn}
+use Rattle.adjust.specs.Sections.{sectionsOf, lent, anyOutside, misfit, misfitIn}
 use Rattle.adjust.proofs.Lists.{from-length}
 use Rattle.adjust.proofs.Holding.{Whole}
 use Rattle.adjust.proofs.Lent.{any-alike, misfit-lent}
 use Rattle.book.specs.declared.Line.{Line}
 use Rattle.book.specs.declared.Book.{Book}
 use Rattle.book.specs.declared.state.Seen.{Seen}
-use Rattle.book.specs.Standing.{Standing, standingOf, isShut, onLine, lineBroken, misplaced, broken}
-use Rattle.book.specs.Changes.{seenOf, numbered, isAmong, brokenIn, seenIn}
+use Rattle.book.specs.Standing.{Standing, standingOf, isShut, onLine, lineBroken, misplaced, brokenBy, broken}
+use Rattle.book.specs.Changes.{numbered, isAmong, seenIn}
+
+-- what a book shows
+abbrev pub seenOf : Standing → Seen
+seenOf v = record { broken = broken v; shut = not (broken v) && isShut v }
 
 -- a number is on the line of the arrays' sections where it is among the numbers
 pub among-sections : (b : Book) (number : ℤ) → isAmong (b .sections .count) (b .sections .numbers) number ≡ onLine (standingOf b) number
@@ -30,8 +35,8 @@ unfolding seenIn broken
 seen-lent b w =
     let s = b .sections in
     let count = sym (from-length s 0 (s .count)) in
-    let whole : brokenIn (b .line) (s .count) (s .heights) (s .distances) (s .discrepancies) ≡ broken (standingOf b) =
-    (λ i. misfit-lent s w i || lineBroken (b .line) (count i) || misplaced (b .line) (count i)) in
+    let whole : brokenBy (misfitIn (s .count) (s .heights) (s .distances) (s .discrepancies)) (b .line) (s .count) ≡ broken (standingOf b) =
+    (λ i. brokenBy (misfit-lent s w i) (b .line) (count i)) in
     λ i. record { broken = whole i; shut = not (whole i) && among-sections b (b .line .start .number) i }
 
 -- ---- the two answers
@@ -46,21 +51,18 @@ module _ (v : Standing) (x : Seen) (e : x ≡ seenOf v) where
 -- ---- of a line and lent lists
 
 module _ (l : Line) (count : ℕ) (ns hs ds es : List ℤ) where
-  pub shown-broken : brokenIn l count hs ds es ≡ true → seenIn l count ns hs ds es ≡ record { broken = true; shut = false }
+  pub shown-broken : brokenBy (misfitIn count hs ds es) l count ≡ true → seenIn l count ns hs ds es ≡ record { broken = true; shut = false }
   unfolding seenIn
   shown-broken e = λ i. record { broken = e i; shut = not (e i) && isAmong count ns (l .start .number) }
 
-  pub shown-whole : brokenIn l count hs ds es ≡ false → seenIn l count ns hs ds es ≡ record { broken = false; shut = isAmong count ns (l .start .number) }
+  pub shown-whole : brokenBy (misfitIn count hs ds es) l count ≡ false → seenIn l count ns hs ds es ≡ record { broken = false; shut = isAmong count ns (l .start .number) }
   unfolding seenIn
   shown-whole e = λ i. record { broken = e i; shut = not (e i) && isAmong count ns (l .start .number) }
 
   -- an unbroken book has no more than 64 sections
-  pub few : brokenIn l count hs ds es ≡ false → count ≤ 64
+  pub few : brokenBy (misfitIn count hs ds es) l count ≡ false → count ≤ 64
   few e =
-      let h = not (leb count (length hs)) in
-      let d = not (leb count (length ds)) in
-      let x = not (leb count (length es)) in
-      let o = anyOutside false (sectionsOf (lent count hs ds es)) in
-      let fit = or-l (misfitIn count hs ds es) (lineBroken l count) (or-l (misfitIn count hs ds es || lineBroken l count) (misplaced l count) e) in
-      let n = not (leb count 64) in
-      leb→le count 64 (holds (not-false (leb count 64) (or-l n h (or-l (n || h) d (or-l (n || h || d) x (or-l (n || h || d || x) o fit))))))
+      let ss = sectionsOf (lent count hs ds es) in
+      let short = not (leb count (length hs)) || not (leb count (length ds)) || not (leb count (length es)) in
+      let fit = or-r short (misfit ss) (or-l (short || misfit ss) (lineBroken l count) (or-l (short || misfit ss || lineBroken l count) (misplaced l count) e)) in
+      omega (arith, from-length (lent count hs ds es) 0 count, leb→le (length ss) 64 (holds (not-false (leb (length ss) 64) (or-l (not (leb (length ss) 64)) (anyOutside false ss) fit))))

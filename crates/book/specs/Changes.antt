@@ -1,9 +1,10 @@
 -- How the code makes a call of a book: what it sees of the sections, and what it changes, before it touches the book. No rule of document 01.
 use mathlib.Core.Path.{_≡_}
-use mathlib.Core.Bool.{Bool, false, not, cond, _&&_, _||_}
+use mathlib.Core.Bool.{Bool, false, not, cond, _&&_}
 use mathlib.Core.List.{List, [], _∷_, _++_}
 use Prim.Native.Nat.{ℕ}
-use lib.Dec.{ltb}
+use lib.Dec.{ltb, eqb}
+use lib.ListN.{length, getD}
 use lib.IntN.{ℤ, pos}
 use Rattle.numbers.specs.Whole.{eqZ, anyOf}
 use Rattle.adjust.specs.declared.Section.{Section}
@@ -13,15 +14,11 @@ use Rattle.book.specs.declared.Line.{Line}
 use Rattle.book.specs.declared.Book.{Book}
 use Rattle.book.specs.declared.Change.{Change}
 use Rattle.book.specs.declared.state.Seen.{Seen}
-use Rattle.book.specs.Standing.{Standing, standingOf, bookWith, isShut, lineBroken, misplaced, broken}
-use Rattle.book.specs.Rules.{Call, bookRefusal}
+use Rattle.book.specs.Standing.{Standing, standingOf, bookWith, brokenBy}
+use Rattle.book.specs.Rules.{Call, bookRefusal, taken}
 use Rattle.book.specs.Calls.{bookAfter}
 
 -- ---- what is seen of the sections
-
--- of an unbroken book also whether its loop is shut
-abbrev pub seenOf : Standing → Seen
-seenOf v = record { broken = broken v; shut = not (broken v) && isShut v }
 
 -- the first count sections by their numbers alone
 abbrev pub numbered : ℕ → List ℤ → Sections
@@ -30,19 +27,31 @@ numbered count ns = record { count = count; numbers = ns; heights = []; distance
 abbrev pub isAmong : ℕ → List ℤ → ℤ → Bool
 isAmong count ns number = anyOf (λ (x : Section). eqZ (x .number) number) (sectionsOf (numbered count ns))
 
-abbrev pub brokenIn : Line → ℕ → List ℤ → List ℤ → List ℤ → Bool
-brokenIn l count hs ds es = misfitIn count hs ds es || lineBroken l count || misplaced l count
-
--- what a line and the lent lists of its sections show
+-- what a line and the lent lists of its sections show: whether they are broken, and where they are not, whether the loop is shut
 unfoldable pub seenIn : Line → ℕ → List ℤ → List ℤ → List ℤ → List ℤ → Seen
 seenIn l count ns hs ds es =
-    record { broken = brokenIn l count hs ds es; shut = not (brokenIn l count hs ds es) && isAmong count ns (l .start .number) }
+    let b : Bool = brokenBy (misfitIn count hs ds es) l count in
+    record { broken = b; shut = not b && isAmong count ns (l .start .number) }
 
 -- ---- what is changed
 
+abbrev pub noSection : Section
+noSection = unnumbered (pos 0) (pos 0) (pos 0)
+
 -- a change of the line alone
 abbrev pub movedTo : ℕ → Line → Change
-movedTo number l = record { number = number; line = l; finishes = false; section = unnumbered (pos 0) (pos 0) (pos 0) }
+movedTo number l = record { number = number; line = l; finishes = false; section = noSection }
+
+-- the change with a number that leads from a book to v: v has a section more, or none
+abbrev pub changeTo : ℕ → Book → Standing → Change
+changeTo number b v =
+    record { number = number; line = v .line; finishes = ltb (b .sections .count) (length (v .sections)); section = getD (v .sections) (b .sections .count) noSection }
+
+-- a call's: to what the rules leave where it is taken, to the same where it is refused
+abbrev pub changeOf : Book → Call → Change
+changeOf b c =
+    let n : ℕ = bookRefusal (standingOf b) c in
+    changeTo n b (cond (eqb n 0) (taken (standingOf b) c) (standingOf b))
 
 -- the book with a change made; a section for which there is no place is left out
 abbrev pub changed : Book → Change → Book
@@ -52,10 +61,10 @@ changed b x =
       sections = cond (x .finishes && ltb (b .sections .count) 64) (holding (b .sections) (sectionsOf (b .sections) ++ (x .section ∷ []))) (b .sections);
     }
 
--- a change that takes a call and leaves v
+-- x takes a call and leaves v
 abbrev pub Leaves : Book → Standing → Change → Type 0
-Leaves b v x = (x .number ≡ 0) × (changed b x ≡ bookWith b v)
+Leaves b v x = (x ≡ changeTo 0 b v) × (changed b x ≡ bookWith b v)
 
--- the change that a call makes: its number, and the book that it leaves
+-- x is the call's change, and makes the book that the call leaves
 abbrev pub Makes : Book → Call → Change → Type 0
-Makes b c x = (x .number ≡ bookRefusal (standingOf b) c) × (changed b x ≡ bookAfter b c)
+Makes b c x = (x ≡ changeOf b c) × (changed b x ≡ bookAfter b c)

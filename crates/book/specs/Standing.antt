@@ -122,5 +122,9 @@ misplaced l count =
     (isFresh (l .stage) && not (eqb count 0 && eqb (l .present .count) 0 && not (isReturn (l .waiting))))
     || (isReturn (l .waiting) && not (twoWay (l .order)))
 
+-- of a line and its count of sections, by whether these are a misfit
+abbrev pub brokenBy : Bool → Line → ℕ → Bool
+brokenBy misfits l count = misfits || lineBroken l count || misplaced l count
+
 unfoldable pub broken : Standing → Bool
-broken v = misfit (v .sections) || lineBroken (v .line) (length (v .sections)) || misplaced (v .line) (length (v .sections))
+broken v = brokenBy (misfit (v .sections)) (v .line) (length (v .sections))

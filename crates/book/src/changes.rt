@@ -1,4 +1,4 @@
-// What each call makes of a book: its refusal, or its effect on the line and the section that it finishes. The book itself is changed in one place.
+// What each call makes of a book: its refusal, or its effect on the line and the section that it finishes. The arrays are written in one place.
 ghost use mathlib.Core.Path.{_≡_};
 ghost use mathlib.Core.List.{[], _∷_, _++_};
 ghost use Prim.Native.Nat.{_<_};
@@ -22,7 +22,7 @@ use super::refusals::station_refusal;
 use adjust::Section;
 use adjust::Sections;
 
-// A change of the line alone; of a call that is refused it leaves the line as it was.
+// A change of the line alone. Of a call that is refused the line is the old one.
 pub fn moved(number: u8, line: Line) -> Change
     ensures { λ r. ⌜ r ≡ movedTo number line ⌝ }
 {

@@ -1,4 +1,4 @@
-// The refusals of closing, and its figures.
+// The refusals of closing.
 ghost use mathlib.Core.Path.{_≡_};
 ghost use mathlib.Core.Bool.{true, false};
 ghost use Rattle.numbers.specs.Tables.{firstOf};

@@ -54,8 +54,8 @@ pub struct Book {
     pub sections: Sections,
 }
 
-// What a call makes of a book, in which no array is copied: document 01's number, 0 where the call is taken; the line that it leaves; and whether it
-// finishes a section, and which.
+// What a call makes of a book: document 01's number, 0 where the call is taken; the line that it leaves; whether it finishes a section, and which.
+// It holds no array.
 pub struct Change {
     pub number: u8,
     pub line: Line,

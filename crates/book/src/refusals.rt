@@ -90,7 +90,7 @@ fn out_of_turn(line: Line, kb: i64) -> bool
     kb != line.present.last
 }
 
-// The refusal that the state of an unbroken book causes to a station whose readings are not refused.
+// The refusal that the state of a book causes, 20 apart, to a station whose readings are not refused.
 fn station_state(b: Book, shut: bool, kb: i64, kf: i64, readings: [[i64; 4]; 2]) -> u8
     requires { ⌜ (shut ≡ isShut (standingOf b)) × (readingRefusal kb kf readings ≡ 0) ⌝ }
     ensures { λ r. ⌜ r ≡ firstOf (stateTests (standingOf b) (station kb kf readings)) ⌝ }

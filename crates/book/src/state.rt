@@ -132,13 +132,13 @@ fn is_misplaced(line: Line, count: usize) -> bool
         | (back & !is_two_way(order))
 }
 
-// What a call's tests ask of all sections of a book: whether the record is none that calls can leave (refusal 20), and whether the loop is shut.
+// What a call's tests ask of all sections of a book: whether the record is broken (refusal 20), and where it is not, whether the loop is shut.
 pub(crate) struct Seen {
     pub(crate) broken: bool,
     pub(crate) shut: bool,
 }
 
-// Of a line and the lists of its sections, which are lent so that no array is copied.
+// Of a line and the lists of its sections, which are lent: a book by value would be copied to be looked at.
 pub(crate) fn look<'a>(
     line: Line,
     count: usize,

@@ -86,8 +86,8 @@ fn take_heading(s: State, line: &[u8]) -> State
     State { book, refusals }
 }
 
-// A line's number into its place, where there is one.
-fn put_number(refusals: &mut [u8], number: usize, refusal: u8)
+// A line's refusal number into the line's place, where there is one.
+fn set_refusal(refusals: &mut [u8], number: usize, refusal: u8)
     ensures { λ _. ⌜ now (refusals .exit) ≡ set (now (refusals .entry)) number refusal ⌝ }
 {
     if number < refusals.len() {
@@ -108,15 +108,18 @@ pub(crate) fn take_line(s: State, line: &[u8], number: usize) -> State
     }
     let book = s.book;
     let c = line_change(book, parse_line(line));
-    put_number(&mut refusals, number, c.number);
+    set_refusal(&mut refusals, number, c.number);
     if c.finishes {
         let book = changes::change(book, c);
         return State { book, refusals };
     }
     // no array is written; a call of `change` here as well would copy all of them once more for each line
-    let line = c.line;
+    let next = c.line;
     let sections = book.sections;
-    let book = Book { line, sections };
+    let book = Book {
+        line: next,
+        sections: sections,
+    };
     State { book, refusals }
 }
 

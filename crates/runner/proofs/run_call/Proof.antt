@@ -11,7 +11,7 @@ change-requires : tie.Need-change-requires
 change-requires c κs = search needs
 
 returns : tie.Need-returns
-returns c = let m = c .before .change-of .ensures in λ i. record { number = m .0 i; book = (c .change .ensures ∙ m .1) i }
+returns c = let m = c .before .change-of .ensures in λ i. record { number = m .0 i .number; book = (c .change .ensures ∙ m .1) i }
 
 pub run-call-spec : {M : Type 1} → statement M
 run-call-spec = tie.close (tie.spec change-of-requires change-requires returns)

@@ -13,14 +13,14 @@ returns-2 : tie.Need-returns-2
 returns-2 c =
     let a = c .before in
     let s = a .before .args in
-    sym (no-heights (s .count) (s .heights .now) (s .distances .now) (s .discrepancies .now) (le-leb _ _ (a .if1 .left)) (lt-leb _ _ (c .if2 .taken)))
+    sym (no-heights (s .count) (s .heights .now) (s .distances .now) (s .discrepancies .now) (lt-leb _ _ (c .if2 .taken)))
 
 returns-3 : tie.Need-returns-3
 returns-3 c =
     let b = c .before in
     let a = b .before in
     let s = a .before .args in
-    sym (no-distances (s .count) (s .heights .now) (s .distances .now) (s .discrepancies .now) (le-leb _ _ (a .if1 .left)) (le-leb _ _ (b .if2 .left)) (lt-leb _ _ (c .if3 .taken)))
+    sym (no-distances (s .count) (s .heights .now) (s .distances .now) (s .discrepancies .now) (le-leb _ _ (b .if2 .left)) (lt-leb _ _ (c .if3 .taken)))
 
 returns-4 : tie.Need-returns-4
 returns-4 c =
@@ -28,7 +28,7 @@ returns-4 c =
     let b = d .before in
     let a = b .before in
     let s = a .before .args in
-    sym (no-discrepancies (s .count) (s .heights .now) (s .distances .now) (s .discrepancies .now) (le-leb _ _ (a .if1 .left)) (le-leb _ _ (b .if2 .left)) (le-leb _ _ (d .if3 .left)) (lt-leb _ _ (c .if4 .taken)))
+    sym (no-discrepancies (s .count) (s .heights .now) (s .distances .now) (s .discrepancies .now) (le-leb _ _ (b .if2 .left)) (le-leb _ _ (d .if3 .left)) (lt-leb _ _ (c .if4 .taken)))
 
 any-outside-requires : tie.Need-any-outside-requires
 any-outside-requires c κs = search needs

@@ -8,6 +8,7 @@ use Rattle.numbers.proofs.Machine.{stored-id}
 use Rattle.adjust.specs.declared.Adjusted.{Adjusted}
 use Rattle.adjust.specs.Sections.{sectionsOf}
 use Rattle.adjust.specs.Frames.{noPoint, adjustedOf, adjustedIfFit}
+use Rattle.book.specs.declared.Change.{Change}
 use Rattle.book.specs.declared.CloseAnswer.the-variants.{Closed, NotClosed}
 use Rattle.book.specs.Standing.{standingOf}
 use Rattle.book.specs.Rules.{Call, close-line, bookRefusal}
@@ -28,6 +29,9 @@ call s = close-line (s .args .number) (s .args .end)
 makes : (m : tie.After-close-line) → Makes (m .before .args .b) (call (m .before)) (m .close-line .result)
 makes m = let s = m .before in makes-as (s .args .b) (close-as (s .fits .number) (s .fits .end)) (m .close-line .result) (m .close-line .ensures)
 
+number : (m : tie.After-close-line) → m .close-line .result .number ≡ bookRefusal (standingOf (m .before .args .b)) (call (m .before))
+number m = ap (λ (x : Change). x .number) (makes m .0)
+
 -- ---- refused
 
 no-points-requires : tie.Need-no-points-requires
@@ -41,9 +45,9 @@ returns c =
     let s = m .before in
     let b = s .args .b in
     let n = bookRefusal (standingOf b) (call s) in
-    let f : n ≡ 0 → ⊥ = λ z. t .if1 .taken (makes m .0 ∙ z) in
+    let f : n ≡ 0 → ⊥ = λ z. t .if1 .taken (number m ∙ z) in
     λ i. record {
-      answer = (ap NotClosed (makes m .0) ∙ sym (nonzero-cond n (Closed (closingOf b (s .args .end) .summary)) (NotClosed n) f)) i;
+      answer = (ap NotClosed (number m) ∙ sym (nonzero-cond n (Closed (closingOf b (s .args .end) .summary)) (NotClosed n) f)) i;
       book = left-as-it-was b (call s) f i;
       points = (c .no-points .ensures ∙ ap (filled noPoint 65) (sym (nonzero-cond n (closingOf b (s .args .end) .points) [] f))) i;
     }
@@ -58,7 +62,7 @@ abbrev passed : tie.After-adjusted-line → tie.Else1
 passed c = c .before .before .before .before
 
 taken : (e : tie.Else1) → bookRefusal (standingOf (e .before .before .before .args .b)) (call (e .before .before .before)) ≡ 0
-taken e = sym (makes (e .before .before) .0) ∙ e .if1 .left
+taken e = sym (number (e .before .before)) ∙ e .if1 .left
 
 figures : (c : tie.After-adjusted-line)
     → c .adjusted-line .result ≡ adjustedOf (closingOf (passed c .before .before .before .args .b) (passed c .before .before .before .args .end))

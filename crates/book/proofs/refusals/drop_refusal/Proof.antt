@@ -3,10 +3,9 @@ use mathlib.Core.Path.{_≡_, refl, _∙_}
 use mathlib.Core.Bool.{not, cond}
 use Rattle.adjust.proofs.Holding.{Whole}
 use Rattle.book.specs.Standing.{standingOf}
-use Rattle.book.specs.Changes.{seenOf}
 use Rattle.book.specs.Rules.{drop-run}
 use Rattle.book.proofs.Parts.{broken-refused, state-refused}
-use Rattle.book.proofs.Looked.{seen-lent, saw-broken}
+use Rattle.book.proofs.Looked.{seenOf, seen-lent, saw-broken}
 use borrow.Author.Needs.{needs}
 use Rattle.book.proofs.refusals.drop_refusal.Statement.{statement}
 use Rattle.book.proofs.refusals.drop_refusal.Tie as tie

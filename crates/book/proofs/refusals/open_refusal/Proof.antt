@@ -5,10 +5,9 @@ use Rattle.numbers.specs.Tables.{firstOf}
 use Rattle.numbers.proofs.Machine.{stored-id}
 use Rattle.adjust.proofs.Holding.{Whole}
 use Rattle.book.specs.Standing.{standingOf}
-use Rattle.book.specs.Changes.{seenOf}
 use Rattle.book.specs.Rules.{Call, open-line, inputTests}
 use Rattle.book.proofs.Parts.{input-refused, broken-refused, state-refused}
-use Rattle.book.proofs.Looked.{seen-lent, saw-broken}
+use Rattle.book.proofs.Looked.{seenOf, seen-lent, saw-broken}
 use borrow.Author.Needs.{needs}
 use Rattle.book.proofs.refusals.open_refusal.Statement.{statement}
 use Rattle.book.proofs.refusals.open_refusal.Tie as tie

@@ -5,10 +5,9 @@ use Rattle.numbers.proofs.Machine.{stored-both, holds-stored}
 use Rattle.station.specs.Station.{readingRefusal}
 use Rattle.adjust.proofs.Holding.{Whole}
 use Rattle.book.specs.Standing.{standingOf}
-use Rattle.book.specs.Changes.{seenOf}
 use Rattle.book.specs.Rules.{Call, station, inputTests, stateTests}
 use Rattle.book.proofs.Parts.{input-refused, broken-refused, state-refused}
-use Rattle.book.proofs.Looked.{seen-lent, saw-broken, saw-shut}
+use Rattle.book.proofs.Looked.{seenOf, seen-lent, saw-broken, saw-shut}
 use borrow.Author.Needs.{needs}
 use Rattle.book.proofs.refusals.station_refusal.Statement.{statement}
 use Rattle.book.proofs.refusals.station_refusal.Tie as tie

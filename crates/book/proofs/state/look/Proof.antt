@@ -7,7 +7,9 @@ use mir.Syntax.{w64}
 use mir.Val.{SFits}
 use borrow.Author.Needs.{needs}
 use Rattle.numbers.proofs.Machine.{stored-id}
-use Rattle.book.specs.Changes.{isAmong, brokenIn}
+use Rattle.adjust.specs.Sections.{misfitIn}
+use Rattle.book.specs.Standing.{brokenBy}
+use Rattle.book.specs.Changes.{isAmong}
 use Rattle.book.proofs.Looked.{shown-broken, shown-whole, few}
 use Rattle.book.proofs.state.look.Statement.{statement}
 use Rattle.book.proofs.state.look.Tie as tie
@@ -24,8 +26,10 @@ is-misplaced-requires c κs = search needs
 -- what the three tests said together
 tested : (c : tie.After-is-misplaced)
     → c .before .before .misfits .result || c .before .line-broken .result || c .is-misplaced .result
-    ≡ brokenIn (c .before .before .before .args .line) (c .before .before .before .args .count) (c .before .before .before .args .heights .now)
-    (c .before .before .before .args .distances .now) (c .before .before .before .args .discrepancies .now)
+    ≡ brokenBy
+    (misfitIn (c .before .before .before .args .count) (c .before .before .before .args .heights .now) (c .before .before .before .args .distances .now)
+    (c .before .before .before .args .discrepancies .now))
+    (c .before .before .before .args .line) (c .before .before .before .args .count)
 tested c = λ i. c .before .before .misfits .ensures i || c .before .line-broken .ensures i || c .is-misplaced .ensures i
 
 returns : tie.Need-returns

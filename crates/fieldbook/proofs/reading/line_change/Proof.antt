@@ -32,7 +32,7 @@ returns c =
     let k = c .before .before .before in
     let s = k .before .before .before in
     let m = c .change-of .ensures in
-    (λ i. record { number = m .0 i; book = m .1 i }) ∙ ap (λ (x : List ℤ). Calls.stepOf (s .args .b) (Calls.callOf x)) (c .before .call-of .ensures)
+    (λ i. record { number = m .0 i .number; book = m .1 i }) ∙ ap (λ (x : List ℤ). Calls.stepOf (s .args .b) (Calls.callOf x)) (c .before .call-of .ensures)
     ∙ sym (of-kind (s .args .b) (s .args .line) _ (k .kind .given .1))
 
 moved-requires : tie.Need-moved-requires

@@ -35,11 +35,11 @@ parse-line-requires c κs = search needs
 line-change-requires : tie.Need-line-change-requires
 line-change-requires c κs = search needs
 
-slice-aggregate-put-number : tie.Need-slice-aggregate-put-number
-slice-aggregate-put-number c = search needs
+slice-aggregate-set-refusal : tie.Need-slice-aggregate-set-refusal
+slice-aggregate-set-refusal c = search needs
 
-put-number-requires : tie.Need-put-number-requires
-put-number-requires c κs = search needs
+set-refusal-requires : tie.Need-set-refusal-requires
+set-refusal-requires c κs = search needs
 
 change-requires : tie.Need-change-requires
 change-requires c κs = search needs
@@ -65,7 +65,7 @@ module _ (c : tie.After-refusals3) where
 returns-3 : tie.Need-returns-3
 returns-3 c =
     let p = c .before .before in
-    (λ i. record { book = c .change .ensures i; refusals = p .before .put-number .ensures i }) ∙ with-record p
+    (λ i. record { book = c .change .ensures i; refusals = p .before .set-refusal .ensures i }) ∙ with-record p
 
 -- a change that finishes no section leaves the arrays as they are
 kept : (b : Book) (x : Change) → x .finishes ≡ false → record { line = x .line; sections = b .sections } ≡ changed b x
@@ -75,7 +75,7 @@ returns-4 : tie.Need-returns-4
 returns-4 c =
     let e = c .before .before in
     let p = e .before in
-    (λ i. record { book = kept (began p .args .s .book) (change p) (e .if3 .left) i; refusals = p .before .put-number .ensures i }) ∙ with-record p
+    (λ i. record { book = kept (began p .args .s .book) (change p) (e .if3 .left) i; refusals = p .before .set-refusal .ensures i }) ∙ with-record p
 
 pub take-line-spec : {M : Type 1} → statement M
 take-line-spec =
@@ -87,8 +87,8 @@ take-line-spec =
     returns-2
     parse-line-requires
     line-change-requires
-    slice-aggregate-put-number
-    put-number-requires
+    slice-aggregate-set-refusal
+    set-refusal-requires
     change-requires
     returns-3
     returns-4)

@@ -1,9 +1,9 @@
--- `put_number` meets its contract: a number past the last place changes nothing.
+-- `set_refusal` meets its contract: a number past the last place changes nothing.
 use mathlib.Core.Path.{sym}
 use lib.Seq.{set-out}
 use borrow.Author.Needs.{needs}
-use Rattle.fieldbook.proofs.reading.put_number.Statement.{statement}
-use Rattle.fieldbook.proofs.reading.put_number.Tie as tie
+use Rattle.fieldbook.proofs.reading.set_refusal.Statement.{statement}
+use Rattle.fieldbook.proofs.reading.set_refusal.Tie as tie
 
 slice-write-refusals : tie.Need-slice-write-refusals
 slice-write-refusals c = search needs
@@ -17,5 +17,5 @@ returns c = search needs
 returns-2 : tie.Need-returns-2
 returns-2 c = let s = c .before in sym (set-out (s .args .refusals .now) (s .args .number) (s .args .refusal) (c .if1 .left))
 
-pub put-number-spec : {M : Type 1} → statement M
-put-number-spec = tie.close (tie.spec slice-write-refusals same-length returns returns-2)
+pub set-refusal-spec : {M : Type 1} → statement M
+set-refusal-spec = tie.close (tie.spec slice-write-refusals same-length returns returns-2)
