@@ -8,12 +8,13 @@ use lib.Dec.{eqb, eqb→eq, eqb·suc-zero}
 use lib.ListN.{length, take}
 use lib.IntN.{ℤ, pos, _*ℤ_}
 use Rattle.numbers.specs.Whole.{filled, anyOf}
-use Rattle.numbers.proofs.Tests.{by-test, holds}
-use Rattle.numbers.proofs.Tables.{without, first-without}
+use Rattle.numbers.proofs.Tests.{by-test, holds, no-true}
+use Rattle.numbers.proofs.Tables.{without, first-without, zero-cond}
 use Rattle.numbers.proofs.Filled.{filled-take}
 use Rattle.adjust.specs.declared.Section.{Section}
 use Rattle.adjust.specs.declared.Point.{Point}
 use Rattle.adjust.specs.declared.Summary.{Summary}
+use Rattle.adjust.specs.declared.Adjusted.{Adjusted}
 use Rattle.adjust.specs.Sections.{sectionsOf}
 use Rattle.adjust.specs.Line.{Frame, pointsAfter, points, frameOf, Closing, closing}
 use Rattle.adjust.specs.Frames.{noPoint, adjustedOf}
@@ -21,16 +22,19 @@ use Rattle.adjust.specs.Call.{numberOf}
 use Rattle.adjust.proofs.Refused.{number-of-answer}
 use Rattle.adjust.proofs.Holding.{sections-holding, holding-again}
 use Rattle.book.specs.declared.Book.{Book}
+use Rattle.book.specs.declared.Change.{Change}
 use Rattle.book.specs.declared.Outcome.{Outcome}
 use Rattle.book.specs.declared.CloseAnswer.the-variants.{Closed, NotClosed}
 use Rattle.book.specs.declared.CloseOutcome.{CloseOutcome}
 use Rattle.book.specs.Standing.{Standing, standingOf, bookWith}
 use Rattle.book.specs.Rules.{Call, open-line, station, end-run, drop-run, drop-section, close-line, inputTests, stateTests, bookRefusal}
 use Rattle.book.specs.Rules as Rules
+use Rattle.book.specs.Changes.{Makes}
 use Rattle.book.specs.Calls.{freshBook, bookAfter, outcome, closingOf, closeNumber, closeValues, closeAnswerOf, closeOutcome, gaveOf, figuresOf}
+use Rattle.ledger.specs.Plain as Plain
 use Rattle.ledger.specs.Plain.{Reading, freshReading, next, taken, refusal, after, refusals, given, closings, standing}
 use Rattle.ledger.specs.Claims.{ClosedOnce}
-use Rattle.ledger.specs.Trace.{Ensures, Trace, done, call, close, EveryTrace}
+use Rattle.ledger.specs.Trace.{Ensures, ChangeEnsures, MadeEnsures, FiguresEnsures, isClosing, closingIn, hadOf, Trace, done, call, close, made, made-closed, EveryTrace}
 use Rattle.ledger.proofs.Follows.{follows}
 use Rattle.ledger.proofs.Whole.{Kept, next-kept, fresh-kept, calls-kept, same-refusal, no-shorter}
 use Rattle.ledger.proofs.Every.{every-list, same-figures, either, none-given}
@@ -111,6 +115,53 @@ nothing-beside b drop-run o h r = refl
 nothing-beside b drop-section o h r = refl
 nothing-beside b (close-line number end) o h r = absurd h
 
+-- the change of each call
+changes : (b : Book) (c : Call) (x : Change) → ChangeEnsures b c x → Makes b c x
+changes b (open-line order instrument number height) x h = h
+changes b (station kb kf readings) x h = h
+changes b (end-run number) x h = h
+changes b drop-run x h = h
+changes b drop-section x h = h
+changes b (close-line number end) x h = h
+
+none-beside : (r : Reading) (c : Call) → isClosing c ≡ false → given r c ≡ []
+none-beside r (open-line order instrument number height) e = refl
+none-beside r (station kb kf readings) e = refl
+none-beside r (end-run number) e = refl
+none-beside r drop-run e = refl
+none-beside r drop-section e = refl
+none-beside r (close-line number end) e = no-true (sym e)
+
+-- a change that is made of the book of a reading: its number, and the book of the next reading
+module _ (r : Reading) (k : Kept (standing r)) (c : Call) {b m : Book} (p : b ≡ bookOf r) (x : Change) (h : ChangeEnsures b c x) (g : MadeEnsures b x m) where
+  made-number : x .number ≡ refusal r c
+  made-number = ap (λ (y : Change). y .number) (changes b c x h .0) ∙ ap (λ (y : Book). bookRefusal (standingOf y) c) p ∙ number r k c
+
+  made-book : m ≡ bookOf (next r c)
+  made-book = g ∙ changes b c x h .1 ∙ ap (λ (y : Book). bookAfter y c) p ∙ left r k c
+
+-- the figures of a book that was closed, as a closing
+module _ (r : Reading) (k : Kept (standing r)) (number end : ℤ) {m : Book} (x : Change) (a : Adjusted)
+    (n : x .number ≡ refusal r (close-line number end)) (s : m ≡ bookOf (next r (close-line number end))) (f : FiguresEnsures m a) where
+  abbrev closed : Reading
+  closed = taken r (close-line number end)
+
+  -- where the call is taken, the next reading is the closed one
+  had-closing : refusal r (close-line number end) ≡ 0 → closingIn a ≡ Plain.figuresOf closed
+  had-closing e =
+      let reached : next r (close-line number end) ≡ closed = zero-cond (refusal r (close-line number end)) closed r e in
+      let kept : Kept (standing closed) = subst (λ (q : Reading). Kept (standing q)) reached (next-kept r (close-line number end) k) in
+      let figures : a ≡ adjustedOf (Plain.figuresOf closed) = f ∙ ap figuresOf (s ∙ ap bookOf reached) ∙ figures-again closed kept refl in
+      ap closingIn figures
+      ∙ (λ i. record { summary = Plain.figuresOf closed .summary; points = points-back (r .start .height) end (r .start .number) (standing closed .sections) (kept .few) i })
+
+  had : hadOf x a ≡ cond (eqb (refusal r (close-line number end)) 0) (given r (close-line number end)) []
+  had =
+      (λ i. cond (eqb (n i) 0) (closingIn a ∷ []) [])
+      ∙ by-test (eqb (refusal r (close-line number end)) 0)
+      (λ t. cond t (closingIn a ∷ []) [] ≡ cond t (given r (close-line number end)) [])
+      (λ t. ap (λ (g : Closing). g ∷ []) (had-closing (eqb→eq (refusal r (close-line number end)) 0 t))) (λ t. refl)
+
 record Same (r : Reading) (calls : List Call) (ns : List ℕ) (gs : List Closing) (e : Book) : Type 0 where
   numbers : ns ≡ refusals r calls
   gave : gs ≡ closings r calls
@@ -141,6 +192,23 @@ traced r k p (close {number = m} {end = end} {cs = cs} o h t) =
     ap gaveOf q ∙ gives (bookOf r) m end few
     ∙ (λ i. cond (eqb (number r k c i) 0) (closing (r .order) (r .start) end (held i) ∷ []) []) in
     record { numbers = λ i. answered i ∷ rest .numbers i; gave = λ i. gave i ++ rest .gave i; book = rest .book }
+traced r k p (made {c = c} {cs = cs} x n h g t) =
+    let rest = traced (next r c) (next-kept r c k) (made-book r k c p x h g) t in
+    record {
+      numbers = λ i. made-number r k c p x h g i ∷ rest .numbers i;
+      gave = rest .gave ∙ ap (λ (l : List Closing). l ++ closings (next r c) cs) (sym (either (eqb (refusal r c) 0) (none-beside r c n)));
+      book = rest .book;
+    }
+traced r k p (made-closed {number = m} {end = end} x a h g f t) =
+    let c : Call = close-line m end in
+    let left-book = made-book r k c p x h g in
+    let answered = made-number r k c p x h g in
+    let rest = traced (next r c) (next-kept r c k) left-book t in
+    record {
+      numbers = λ i. answered i ∷ rest .numbers i;
+      gave = λ i. had r k m end x a answered left-book f i ++ rest .gave i;
+      book = rest .book;
+    }
 
 -- ---- 20 is not given
 
