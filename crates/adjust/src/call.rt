@@ -5,7 +5,7 @@ ghost use Prim.Native.Nat.{_≤_};
 ghost use lib.ListN.{length, take, drop};
 ghost use Rattle.adjust.specs.declared.Point.{Point};
 ghost use Rattle.adjust.specs.Sections.{sectionsOf, over};
-ghost use Rattle.adjust.specs.Call.{adjustRefusal, answerOf, heightsAfter};
+ghost use Rattle.adjust.specs.Call.{adjustRefusal, numberOf, answerOf, heightsAfter};
 use super::Answer;
 use super::Point;
 use super::Sections;
@@ -54,6 +54,7 @@ fn put_heights(points: [Point; 65], count: usize, heights: &mut [i64])
 pub fn adjust(start: i64, end: i64, s: Sections, heights: &mut [i64]) -> Answer
     ensures { λ a. ⌜ (a ≡ answerOf (adjustRefusal start end (sectionsOf s) (length (now (heights .entry)))))
         × (now (heights .exit) ≡ heightsAfter start end (sectionsOf s) (now (heights .entry))) ⌝ }
+    ensures { λ a. ⌜ numberOf a ≡ adjustRefusal start end (sectionsOf s) (length (now (heights .entry))) ⌝ }
 {
     let code = adjust_refusal(start, end, s, heights.len());
     if code != 0 {

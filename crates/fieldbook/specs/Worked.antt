@@ -1,46 +1,46 @@
--- Case A of document 01, worked: the lines of its text give the lines of its report.
+-- Case A of document 01, worked: the bytes of its text give the bytes of its report, both written out as they stand in a file.
 use mathlib.Core.Path.{_≡_, refl}
-use mathlib.Core.Bool.{false}
-use mathlib.Core.List.{List, [], _∷_}
+use mathlib.Core.List.{List}
+use mathlib.Core.List as Lists
 use Prim.Native.Nat.{ℕ}
-use lib.IntN.{ℤ, pos, negsuc}
-use Rattle.columns.specs.declared.reader.Tag.{Tag}
-use Rattle.columns.specs.declared.reader.Tag.the-variants.{Lin, Sta, Run, End}
+use Prim.Native.Char.{code}
+use Prim.Native.String.{String, [], _∷_, _++_}
 use Rattle.roots.specs.Round.{roundEven}
 use Rattle.roots.specs.Limit.{isWithin}
 use Rattle.columns.specs.Buffers.{putAt}
 use Rattle.columns.specs.Decimals.{blanks, digitsBy, digits, decimal, fitsIn, pad, same, valueOf, hasMinus, candidate, fieldOf}
 use Rattle.columns.specs.Lines.{lineEnd, lineWith, widthOf, fields, allFit, columnsOf, lineFits, tagLine, isWide, heading, title}
-use Rattle.columns.specs.Records.{letters, tagAmong, allNumbers, numbersIn, numbersLine, recordIn, lineIn}
+use Rattle.columns.specs.Records.{tagAmong, allNumbers, numbersIn, numbersLine, recordIn, lineIn}
+use Rattle.columns.specs.Texts.{linesBy, lines, joined}
 use Rattle.runner.specs.Calls as Calls
 use Rattle.fieldbook.specs.Text.{refusalsFrom}
-use Rattle.fieldbook.specs.Report.{reportLines}
+use Rattle.fieldbook.specs.Report.{report}
 
-abbrev line : Tag → List ℤ → List ℕ
-line t zs = tagLine (letters t) zs false
+-- the bytes of a text in ASCII
+abbrev pub bytesOf : String → List ℕ
+bytesOf [] = Lists.[]
+bytesOf (c ∷ s) = Lists._∷_ (code c) (bytesOf s)
 
-abbrev pub bookA : List (List ℕ)
+abbrev pub bookA : String
 bookA =
-    heading
-    ∷ line Lin (pos 4 ∷ pos 3 ∷ pos 1 ∷ pos 10000 ∷ [])
-    ∷ line Sta (pos 4787 ∷ pos 1571 ∷ pos 1197 ∷ pos 1384 ∷ pos 6171 ∷ pos 4687 ∷ pos 739 ∷ pos 363 ∷ pos 551 ∷ pos 5239 ∷ [])
-    ∷ line Sta (pos 4687 ∷ pos 1965 ∷ pos 1700 ∷ pos 1832 ∷ pos 6519 ∷ pos 4787 ∷ pos 2141 ∷ pos 1874 ∷ pos 2007 ∷ pos 6793 ∷ [])
-    ∷ line Run (pos 2 ∷ [])
-    ∷ line Sta (pos 4787 ∷ pos 1300 ∷ pos 1100 ∷ pos 1200 ∷ pos 5987 ∷ pos 4687 ∷ pos 1000 ∷ pos 800 ∷ pos 900 ∷ pos 5587 ∷ [])
-    ∷ line Sta (pos 4687 ∷ pos 1500 ∷ pos 1300 ∷ pos 1400 ∷ pos 6087 ∷ pos 4787 ∷ pos 1250 ∷ pos 1050 ∷ pos 1150 ∷ pos 5937 ∷ [])
-    ∷ line Run (pos 3 ∷ [])
-    ∷ line End (pos 3 ∷ pos 11206 ∷ [])
-    ∷ []
+    "LEVEL BOOK                                                                         \n"
+    ++ "LIN       4       3       1   10000                                                \n"
+    ++ "STA    4787    1571    1197    1384    6171    4687     739     363     551    5239\n"
+    ++ "STA    4687    1965    1700    1832    6519    4787    2141    1874    2007    6793\n"
+    ++ "RUN       2                                                                        \n"
+    ++ "STA    4787    1300    1100    1200    5987    4687    1000     800     900    5587\n"
+    ++ "STA    4687    1500    1300    1400    6087    4787    1250    1050    1150    5937\n"
+    ++ "RUN       3                                                                        \n"
+    ++ "END       3   11206                                                                \n"
 
-abbrev pub reportA : List (List ℕ)
+abbrev pub reportA : String
 reportA =
-    title
-    ∷ tagLine (67 ∷ 76 ∷ 79 ∷ []) (pos 8 ∷ pos 4164 ∷ pos 2 ∷ pos 0 ∷ pos 0 ∷ []) false
-    ∷ tagLine (80 ∷ 78 ∷ 84 ∷ []) (pos 1 ∷ pos 0 ∷ pos 0 ∷ pos 10000 ∷ []) false
-    ∷ tagLine (80 ∷ 78 ∷ 84 ∷ []) (pos 2 ∷ pos 2564 ∷ negsuc 3 ∷ pos 10657 ∷ []) false
-    ∷ tagLine (80 ∷ 78 ∷ 84 ∷ []) (pos 3 ∷ pos 4164 ∷ negsuc 3 ∷ pos 11206 ∷ []) false
-    ∷ []
+    "REDUCED LEVELS                                                                     \n"
+    ++ "CLO       8    4164       2       0       0                                        \n"
+    ++ "PNT       1       0       0   10000                                                \n"
+    ++ "PNT       2    2564      -4   10657                                                \n"
+    ++ "PNT       3    4164      -4   11206                                                \n"
 
-pub case-a : reportLines bookA ≡ reportA
-unfolding lineIn recordIn numbersLine tagAmong allNumbers numbersIn putAt heading title lineWith lineEnd fieldOf candidate hasMinus valueOf same pad decimal digits digitsBy blanks tagLine lineFits columnsOf allFit widthOf fitsIn fields isWide refusalsFrom Calls.callOf roundEven isWithin
+pub case-a : report (bytesOf bookA) ≡ bytesOf reportA
+unfolding report linesBy lines joined lineIn recordIn numbersLine tagAmong allNumbers numbersIn putAt heading title lineWith lineEnd fieldOf candidate hasMinus valueOf same pad decimal digits digitsBy blanks tagLine lineFits columnsOf allFit widthOf fitsIn fields isWide refusalsFrom Calls.callOf roundEven isWithin
 case-a = refl

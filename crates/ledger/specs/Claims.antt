@@ -1,7 +1,7 @@
 -- What is claimed of every list of calls from a fresh book: of the closing taken in it (demand 3 of document 01), of the order of refusals, and of refused
 -- and dropped calls.
 use mathlib.Core.Path.{_≡_}
-use mathlib.Core.Bool.{Bool, true, false, cond, _&&_}
+use mathlib.Core.Bool.{cond}
 use mathlib.Core.List.{List, [], _∷_, _++_}
 use Prim.Native.Nat.{ℕ}
 use mathlib.Core.Option.{none}
@@ -9,14 +9,13 @@ use lib.Dec.{eqb}
 use lib.IntN.{ℤ, pos, negℤ}
 use lib.Signed.{_≤ℤ_}
 use Rattle.numbers.specs.Tables.{Lowest}
-use Rattle.station.specs.declared.Order.the-variants.{Third}
 use Rattle.adjust.specs.declared.Point.{Point}
 use Rattle.adjust.specs.Line.{frameOf, Closing, closing}
 use Rattle.adjust.specs.Claims.{Near, corrections, lastHeight}
 use Rattle.book.specs.declared.Stage.the-variants.{Open, Closed}
 use Rattle.book.specs.Standing.{Standing, broken}
-use Rattle.book.specs.Rules.{Call, open-line, station, end-run, drop-run, drop-section, close-line, inputTests, stateTests, bookRefusal}
-use Rattle.ledger.specs.Plain.{Reading, freshReading, after, next, taken, refusal, standing, closings}
+use Rattle.book.specs.Rules.{Call, drop-run, drop-section, close-line, inputTests, stateTests, bookRefusal}
+use Rattle.ledger.specs.Plain.{Reading, freshReading, after, next, taken, refusal, standing, withLists, closings}
 
 -- ---- a closing
 
@@ -65,25 +64,12 @@ before30 n = cond (eqb n 31) 30 (cond (eqb n 30) 31 n)
 abbrev pub LowestGiven : Type 0
 LowestGiven = (v : Standing) (c : Call) → Lowest before30 (inputTests c ++ ((20, broken v) ∷ stateTests v c)) (bookRefusal v c)
 
--- ---- refused calls, and stations that are dropped
+-- ---- refused calls
 
 -- the calls of a list that are taken
 abbrev pub takenOnly : Reading → List Call → List Call
 takenOnly r [] = []
 takenOnly r (c ∷ cs) = cond (eqb (refusal r c) 0) (c ∷ []) [] ++ takenOnly (next r c) cs
-
-abbrev pub isStation : Call → Bool
-isStation (open-line order instrument number height) = false
-isStation (station kb kf readings) = true
-isStation (end-run number) = false
-isStation drop-run = false
-isStation drop-section = false
-isStation (close-line number end) = false
-
--- every call of a list is a station
-abbrev pub stationsOnly : List Call → Bool
-stationsOnly [] = true
-stationsOnly (c ∷ cs) = isStation c && stationsOnly cs
 
 -- a list without its refused calls leaves the same, and its closings give the same
 abbrev pub StruckOut : Type 0
@@ -92,15 +78,17 @@ StruckOut =
     → (after freshReading (takenOnly freshReading calls) ≡ after freshReading calls)
     × (closings freshReading (takenOnly freshReading calls) ≡ closings freshReading calls)
 
--- stations of a run that is dropped: the reading is the one before them
+-- ---- dropped calls
+
+-- Calls that leave the line open and its finished sections and what waits as they were in r, whichever they are and whether taken or refused: drop run
+-- after them leaves the lists that r had, and an empty present run. So stations that are dropped stand in no list
 abbrev pub RunDropped : Type 0
 RunDropped =
-    (r : Reading) → r .stage ≡ Open → r .present ≡ [] → (stations : List Call) → stationsOnly stations ≡ true
-    → after r (stations ++ (drop-run ∷ [])) ≡ r
+    (r : Reading) (calls : List Call) → after r calls .stage ≡ Open → after r calls .sections ≡ r .sections → after r calls .waiting ≡ r .waiting
+    → after r (calls ++ (drop-run ∷ [])) ≡ withLists (after r calls) (r .sections) (r .waiting) []
 
--- and of a section that is dropped, out and back, also where the end of its outward run is refused
+-- the same of drop section, whatever waits after them: nothing does then
 abbrev pub SectionDropped : Type 0
 SectionDropped =
-    (r : Reading) → r .stage ≡ Open → r .order ≡ Third → r .waiting ≡ none → r .present ≡ []
-    → (out back : List Call) → stationsOnly out ≡ true → stationsOnly back ≡ true → (n : ℤ)
-    → after r (out ++ (end-run n ∷ (back ++ (drop-section ∷ [])))) ≡ r
+    (r : Reading) (calls : List Call) → after r calls .stage ≡ Open → after r calls .sections ≡ r .sections
+    → after r (calls ++ (drop-section ∷ [])) ≡ withLists (after r calls) (r .sections) none []

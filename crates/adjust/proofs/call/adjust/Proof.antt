@@ -55,9 +55,10 @@ returns : tie.Need-returns
 unfolding heightsAfter
 returns c =
     let s = c .before .before in
-    let n : code s ≡ 0 → ⊥ = λ e. c .if1 .taken (number (c .before) ∙ e) in (
-      ap Refused (number (c .before)) ∙ sym (nonzero-cond (code s) Taken (Refused (code s)) n),
-      sym (nonzero-cond (code s) (over (adjustedHeights (s .args .start) (s .args .end) (sectionsOf (s .args .s))) (s .args .heights .now)) (s .args .heights .now) n),
+    let n : code s ≡ 0 → ⊥ = λ e. c .if1 .taken (number (c .before) ∙ e) in
+    let kept = nonzero-cond (code s) (over (adjustedHeights (s .args .start) (s .args .end) (sectionsOf (s .args .s))) (s .args .heights .now)) (s .args .heights .now) n in (
+      (ap Refused (number (c .before)) ∙ sym (nonzero-cond (code s) Taken (Refused (code s)) n), sym kept),
+      number (c .before),
     )
 
 taken : (c : tie.Else1) → code (c .before .before) ≡ 0
@@ -105,13 +106,13 @@ returns-2 c =
     let ss = sectionsOf (s .args .s) in
     let f = frameOf (s .args .start) (s .args .end) ss in
     let zero = taken e in
-    let shown = p .points-of .ensures ∙ ap (λ (z : Known). filled noPoint 65 (points (frame z) (pos 0) ss)) (known-is k) in (
-      sym (zero-cond (code s) Taken (Refused (code s)) zero),
-      put .put-heights .ensures
-          ∙ ap (λ (xs : List Point). over (map (λ (p : Point). p .height) (take (s .args .s .count) (drop 1 xs))) (s .args .heights .now)) shown
-          ∙ ap (λ (hs : List ℤ). over hs (s .args .heights .now)) (behind f ss (s .args .s .count) (from-length (s .args .s) 0 (s .args .s .count)) (between e .fits .few))
-          ∙ sym (zero-cond (code s) (over (adjustedHeights (s .args .start) (s .args .end) ss) (s .args .heights .now)) (s .args .heights .now) zero),
-    )
+    let shown = p .points-of .ensures ∙ ap (λ (z : Known). filled noPoint 65 (points (frame z) (pos 0) ss)) (known-is k) in
+    let wrote =
+    put .put-heights .ensures
+    ∙ ap (λ (xs : List Point). over (map (λ (p : Point). p .height) (take (s .args .s .count) (drop 1 xs))) (s .args .heights .now)) shown
+    ∙ ap (λ (hs : List ℤ). over hs (s .args .heights .now)) (behind f ss (s .args .s .count) (from-length (s .args .s) 0 (s .args .s .count)) (between e .fits .few))
+    ∙ sym (zero-cond (code s) (over (adjustedHeights (s .args .start) (s .args .end) ss) (s .args .heights .now)) (s .args .heights .now) zero) in
+    ((sym (zero-cond (code s) Taken (Refused (code s)) zero), wrote), sym zero)
 
 pub adjust-spec : {M : Type 1} → statement M
 adjust-spec =

@@ -29,8 +29,8 @@ returns c =
     let start = stored-id (s .fits .start) in
     let end = stored-id (s .fits .end) in (
       c .number-of .ensures
-          ∙ ap numberOf (called .adjust .ensures .0 ∙ (λ i. answerOf (adjustRefusal (start i) (end i) (sectionsOf (table .table-of .ensures i)) (length hs)))),
-      called .adjust .ensures .1 ∙ (λ i. heightsAfter (start i) (end i) (sectionsOf (table .table-of .ensures i)) hs),
+          ∙ ap numberOf (called .adjust .ensures .0 .0 ∙ (λ i. answerOf (adjustRefusal (start i) (end i) (sectionsOf (table .table-of .ensures i)) (length hs)))),
+      called .adjust .ensures .0 .1 ∙ (λ i. heightsAfter (start i) (end i) (sectionsOf (table .table-of .ensures i)) hs),
     )
 
 pub adjust-legs-spec : {M : Type 1} → statement M
