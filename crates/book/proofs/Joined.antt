@@ -13,17 +13,19 @@ use mir.Val.{SFits}
 use Rattle.numbers.proofs.Tables.{zero-cond, nonzero-cond}
 use Rattle.numbers.proofs.Machine.{stored, stored-id, stored-both}
 use Rattle.adjust.specs.Sections.{sectionsOf, holding}
-use Rattle.adjust.specs.Call.{answerOf}
+use Rattle.adjust.specs.Call.{numberOf, answerOf}
+use Rattle.adjust.proofs.Refused.{number-of-answer}
 use Rattle.adjust.specs.declared.Section.{Section}
 use Rattle.adjust.proofs.Lists.{from-length}
 use Rattle.adjust.proofs.Holding.{Whole, holding-own}
 use Rattle.book.specs.declared.Line.{Line}
 use Rattle.book.specs.declared.Book.{Book}
 use Rattle.book.specs.declared.Change.{Change}
+use Rattle.book.specs.declared.Outcome.{Outcome}
 use Rattle.book.specs.declared.Waiting.the-variants.{Nothing}
 use Rattle.book.specs.Standing.{Standing, standingOf, bookWith, noRun}
 use Rattle.book.specs.Rules.{Call, open-line, station, end-run, close-line, withRuns, withSection, bookRefusal, taken}
-use Rattle.book.specs.Calls.{bookAfter, outcome}
+use Rattle.book.specs.Calls.{bookAfter, outcome, Answers}
 use Rattle.book.specs.Changes.{noSection, movedTo, changeTo, changed, Leaves, Makes}
 use Rattle.book.proofs.Parts.{taken-parts}
 use Rattle.book.proofs.Unbroken.{unbroken}
@@ -121,6 +123,9 @@ module _ (b : Book) {c d : Call} (same : d ≡ c) where
         let v = standingOf b in
         makes-taken x z (leaves-moved b (taken v d) w (unbroken b (taken-parts v d (sym e ∙ z) .1) .few) m l ss)
 
-  pub makes-outcome : (x : Change) → Makes b d x → record { answer = answerOf (x .number); book = changed b x } ≡ outcome b c
+  pub makes-outcome : (x : Change) → Makes b d x → {r : Outcome} → r ≡ record { answer = answerOf (x .number); book = changed b x } → Answers b c r
   unfolding outcome
-  makes-outcome x m = let n = makes-as x m in λ i. record { answer = answerOf (n .0 i .number); book = n .1 i }
+  makes-outcome x m {r} e =
+      let n = makes-as x m in
+      let p : r ≡ outcome b c = e ∙ (λ i. record { answer = answerOf (n .0 i .number); book = n .1 i }) in
+      (p, ap (λ (o : Outcome). numberOf (o .answer)) p ∙ number-of-answer (bookRefusal (standingOf b) c))

@@ -1,5 +1,6 @@
 -- The calls of a book: what each answers and leaves. Of every call one equation: the number that `bookRefusal` gives; the book as the rules' effect leaves it where
 -- that is 0, and the very book where it is not.
+use mathlib.Core.Path.{_≡_}
 use mathlib.Core.Bool.{cond}
 use mathlib.Core.List.{List, [], _∷_, map}
 use Prim.Native.Nat.{ℕ, _+_}
@@ -14,7 +15,7 @@ use Rattle.adjust.specs.declared.Adjusted.{Adjusted}
 use Rattle.adjust.specs.Sections.{sectionsOf}
 use Rattle.adjust.specs.Line.{Closing, closing}
 use Rattle.adjust.specs.Frames.{noPoint, adjustedOf, nothing, adjustedIfFit}
-use Rattle.adjust.specs.Call.{answerOf}
+use Rattle.adjust.specs.Call.{numberOf, answerOf}
 use Rattle.book.specs.declared.Stage.the-variants.{Fresh}
 use Rattle.book.specs.declared.Waiting.the-variants.{Nothing}
 use Rattle.book.specs.declared.Book.{Book}
@@ -49,6 +50,10 @@ bookAfter b c = cond (eqb (bookRefusal (standingOf b) c) 0) (bookWith b (taken (
 unfoldable pub outcome : Book → Call → Outcome
 outcome b c = record { answer = answerOf (bookRefusal (standingOf b) c); book = bookAfter b c }
 
+-- r is that outcome, and its answer has, by `numberOf`, document 01's number
+abbrev pub Answers : Book → Call → Outcome → Type 0
+Answers b c r = (r ≡ outcome b c) × (numberOf (r .answer) ≡ bookRefusal (standingOf b) c)
+
 -- ---- closing
 
 -- the figures of closing the book's line on the height `end`
@@ -77,6 +82,13 @@ closeOutcome b number end =
       book = bookAfter b (close-line number end);
       points = filled noPoint 65 (cond (eqb n 0) (closingOf b end .points) []);
     }
+
+-- r is that outcome, and its answer has, by `closeNumber` and `closeValues`, document 01's number and values
+abbrev pub Closes : Book → ℤ → ℤ → CloseOutcome → Type 0
+Closes b number end r =
+    let n : ℕ = bookRefusal (standingOf b) (close-line number end) in
+    (r ≡ closeOutcome b number end)
+    × ((closeNumber (r .answer) ≡ n) × (closeValues (r .answer) ≡ cond (eqb n 0) (closingOf b end .summary ∷ []) []))
 
 -- what a closing gave: its values and as many points
 abbrev pub gaveOf : CloseOutcome → List Closing

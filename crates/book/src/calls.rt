@@ -5,7 +5,7 @@ ghost use Rattle.book.specs.Rules.{open-line, station, end-run, drop-run
 ghost use mathlib.Core.List.{[]};
 ghost use Rattle.numbers.specs.Whole.{filled};
 ghost use Rattle.adjust.specs.Frames.{noPoint};
-ghost use Rattle.book.specs.Calls.{outcome, closeOutcome, figuresOf};
+ghost use Rattle.book.specs.Calls.{Answers, Closes, figuresOf};
 ghost use Rattle.book.specs.Changes.{changed};
 use super::Book;
 use super::Change;
@@ -41,35 +41,35 @@ fn outcome_of(b: Book, c: Change) -> Outcome
 
 // Open the line: order 3 or 4, instrument 3 for DS3 or 1 for DS1 and DS05, the start's number and its height in mm.
 pub fn open(b: Book, order: i64, instrument: i64, number: i64, height: i64) -> Outcome
-    ensures { λ r. ⌜ r ≡ outcome b (open-line order instrument number height) ⌝ }
+    ensures { λ r. ⌜ Answers b (open-line order instrument number height) r ⌝ }
 {
     outcome_of(b, changes::open(b, order, instrument, number, height))
 }
 
 // A station: the constants and the readings, back and fore.
 pub fn station(b: Book, kb: i64, kf: i64, readings: [[i64; 4]; 2]) -> Outcome
-    ensures { λ r. ⌜ r ≡ outcome b (station kb kf readings) ⌝ }
+    ensures { λ r. ⌜ Answers b (station kb kf readings) r ⌝ }
 {
     outcome_of(b, changes::station(b, kb, kf, readings))
 }
 
 // End the present run on a benchmark.
 pub fn end_run(b: Book, number: i64) -> Outcome
-    ensures { λ r. ⌜ r ≡ outcome b (end-run number) ⌝ }
+    ensures { λ r. ⌜ Answers b (end-run number) r ⌝ }
 {
     outcome_of(b, changes::end_run(b, number))
 }
 
 // Empty the present run.
 pub fn drop_run(b: Book) -> Outcome
-    ensures { λ r. ⌜ r ≡ outcome b drop-run ⌝ }
+    ensures { λ r. ⌜ Answers b drop-run r ⌝ }
 {
     outcome_of(b, changes::drop_run(b))
 }
 
 // Empty the present run and what waits for its return.
 pub fn drop_section(b: Book) -> Outcome
-    ensures { λ r. ⌜ r ≡ outcome b drop-section ⌝ }
+    ensures { λ r. ⌜ Answers b drop-section r ⌝ }
 {
     outcome_of(b, changes::drop_section(b))
 }
@@ -88,7 +88,7 @@ fn no_points() -> [Point; 65]
 
 // Close the line on its last benchmark, whose known height is end.
 pub fn close_line(b: Book, number: i64, end: i64) -> CloseOutcome
-    ensures { λ r. ⌜ r ≡ closeOutcome b number end ⌝ }
+    ensures { λ r. ⌜ Closes b number end r ⌝ }
 {
     let c = changes::close_line(b, number, end);
     if c.number != 0 {

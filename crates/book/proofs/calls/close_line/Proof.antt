@@ -15,7 +15,7 @@ use Rattle.book.specs.Rules.{Call, close-line, bookRefusal}
 use Rattle.book.specs.Calls.{closingOf, closeOutcome}
 use Rattle.book.specs.Changes.{Makes}
 use Rattle.book.proofs.Joined.{close-as, makes-as, left-as-it-was}
-use Rattle.book.proofs.Closable.{formulas}
+use Rattle.book.proofs.Closable.{closes, formulas}
 use borrow.Author.Needs.{needs}
 use Rattle.book.proofs.calls.close_line.Statement.{statement}
 use Rattle.book.proofs.calls.close_line.Tie as tie
@@ -46,11 +46,11 @@ returns c =
     let b = s .args .b in
     let n = bookRefusal (standingOf b) (call s) in
     let f : n ≡ 0 → ⊥ = λ z. t .if1 .taken (number m ∙ z) in
-    λ i. record {
+    closes b (s .args .number) (s .args .end) (λ i. record {
       answer = (ap NotClosed (number m) ∙ sym (nonzero-cond n (Closed (closingOf b (s .args .end) .summary)) (NotClosed n) f)) i;
       book = left-as-it-was b (call s) f i;
       points = (c .no-points .ensures ∙ ap (filled noPoint 65) (sym (nonzero-cond n (closingOf b (s .args .end) .points) [] f))) i;
-    }
+    })
 
 -- ---- taken
 
@@ -87,11 +87,11 @@ returns-2 c =
     let b = s .args .b in
     let n = bookRefusal (standingOf b) (call s) in
     let gave = closingOf b (s .args .end) in
-    λ i. record {
+    closes b (s .args .number) (s .args .end) (λ i. record {
       answer = (ap (λ (a : Adjusted). Closed (a .summary)) (figures f) ∙ sym (zero-cond n (Closed (gave .summary)) (NotClosed n) (taken e))) i;
       book = (c .change .ensures ∙ makes m .1) i;
       points = (ap (λ (a : Adjusted). a .points) (figures f) ∙ ap (filled noPoint 65) (sym (zero-cond n (gave .points) [] (taken e)))) i;
-    }
+    })
 
 pub close-line-spec : {M : Type 1} → statement M
 close-line-spec =

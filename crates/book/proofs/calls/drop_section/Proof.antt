@@ -1,5 +1,4 @@
 -- `drop_section` meets its contract, by the law that joins a change and an outcome.
-use mathlib.Core.Path.{_∙_}
 use Rattle.book.specs.Rules.{drop-section}
 use Rattle.book.proofs.Joined.{plain, makes-outcome}
 use borrow.Author.Needs.{needs}
@@ -16,7 +15,7 @@ returns : tie.Need-returns
 returns c =
     let m = c .before in
     let s = m .before in
-    c .outcome-of .ensures ∙ makes-outcome (s .args .b) (plain drop-section) (m .drop-section .result) (m .drop-section .ensures)
+    makes-outcome (s .args .b) (plain drop-section) (m .drop-section .result) (m .drop-section .ensures) (c .outcome-of .ensures)
 
 pub drop-section-spec : {M : Type 1} → statement M
 drop-section-spec = tie.close (tie.spec drop-section-requires outcome-of-requires returns)

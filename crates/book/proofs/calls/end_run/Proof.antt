@@ -1,5 +1,4 @@
 -- `end_run` meets its contract, by the law that joins a change and an outcome.
-use mathlib.Core.Path.{_∙_}
 use Rattle.book.proofs.Joined.{end-as, makes-outcome}
 use borrow.Author.Needs.{needs}
 use Rattle.book.proofs.calls.end_run.Statement.{statement}
@@ -15,7 +14,7 @@ returns : tie.Need-returns
 returns c =
     let m = c .before in
     let s = m .before in
-    c .outcome-of .ensures ∙ makes-outcome (s .args .b) (end-as (s .fits .number)) (m .end-run .result) (m .end-run .ensures)
+    makes-outcome (s .args .b) (end-as (s .fits .number)) (m .end-run .result) (m .end-run .ensures) (c .outcome-of .ensures)
 
 pub end-run-spec : {M : Type 1} → statement M
 end-run-spec = tie.close (tie.spec end-run-requires outcome-of-requires returns)

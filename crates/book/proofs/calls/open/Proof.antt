@@ -1,5 +1,4 @@
 -- `open` meets its contract, by the law that joins a change and an outcome.
-use mathlib.Core.Path.{_∙_}
 use Rattle.book.proofs.Joined.{open-as, makes-outcome}
 use borrow.Author.Needs.{needs}
 use Rattle.book.proofs.calls.open.Statement.{statement}
@@ -16,7 +15,7 @@ returns c =
     let m = c .before in
     let s = m .before in
     let same = open-as (s .fits .order) (s .fits .instrument) (s .fits .number) (s .fits .height) in
-    c .outcome-of .ensures ∙ makes-outcome (s .args .b) same (m .«open» .result) (m .«open» .ensures)
+    makes-outcome (s .args .b) same (m .«open» .result) (m .«open» .ensures) (c .outcome-of .ensures)
 
 pub open-spec : {M : Type 1} → statement M
 open-spec = tie.close (tie.spec open-requires outcome-of-requires returns)

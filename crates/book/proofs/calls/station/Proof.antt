@@ -1,5 +1,4 @@
 -- `station` meets its contract, by the law that joins a change and an outcome.
-use mathlib.Core.Path.{_∙_}
 use Rattle.book.proofs.Joined.{station-as, makes-outcome}
 use borrow.Author.Needs.{needs}
 use Rattle.book.proofs.calls.station.Statement.{statement}
@@ -16,7 +15,7 @@ returns c =
     let m = c .before in
     let s = m .before in
     let same = station-as (s .args .readings) (s .fits .kb) (s .fits .kf) in
-    c .outcome-of .ensures ∙ makes-outcome (s .args .b) same (m .station .result) (m .station .ensures)
+    makes-outcome (s .args .b) same (m .station .result) (m .station .ensures) (c .outcome-of .ensures)
 
 pub station-spec : {M : Type 1} → statement M
 station-spec = tie.close (tie.spec station-requires outcome-of-requires returns)
