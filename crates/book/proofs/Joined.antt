@@ -91,6 +91,12 @@ close-as n e = stored-both close-line n e
 pub plain : (c : Call) → c ≡ c
 plain c = refl
 
+-- ---- what an outcome answers
+
+pub answers-as : (b : Book) (c : Call) {r : Outcome} → r ≡ outcome b c → Answers b c r
+unfolding outcome
+answers-as b c e = (e, ap (λ (o : Outcome). numberOf (o .answer)) e ∙ number-of-answer (bookRefusal (standingOf b) c))
+
 -- ---- the change of a call c, which is read back as d
 
 module _ (b : Book) {c d : Call} (same : d ≡ c) where
@@ -125,7 +131,6 @@ module _ (b : Book) {c d : Call} (same : d ≡ c) where
 
   pub makes-outcome : (x : Change) → Makes b d x → {r : Outcome} → r ≡ record { answer = answerOf (x .number); book = changed b x } → Answers b c r
   unfolding outcome
-  makes-outcome x m {r} e =
+  makes-outcome x m e =
       let n = makes-as x m in
-      let p : r ≡ outcome b c = e ∙ (λ i. record { answer = answerOf (n .0 i .number); book = n .1 i }) in
-      (p, ap (λ (o : Outcome). numberOf (o .answer)) p ∙ number-of-answer (bookRefusal (standingOf b) c))
+      answers-as b c (e ∙ (λ i. record { answer = answerOf (n .0 i .number); book = n .1 i }))

@@ -1,10 +1,11 @@
 -- Whatever meets the contracts of the calls answers, gives and leaves what the plain reading does, so what is proved of every list holds of the code.
 use mathlib.Core.Path.{_≡_, refl, sym, ap, subst, _∙_}
+use mathlib.Core.Logic.{_⊎_, inl, inr, ⊎-elim}
 use mathlib.Core.Bool.{Bool, true, false, cond, _||_}
 use mathlib.Core.List.{List, [], _∷_, _++_, map}
 use Prim.Native.Nat.{ℕ, zero, suc, _+_, _≤_}
 use native.Mathlib.Omega.{arith}
-use lib.Dec.{eqb, eqb→eq, eqb·suc-zero}
+use lib.Dec.{eqb, eqb→eq}
 use lib.ListN.{length, take}
 use lib.IntN.{ℤ, pos, _*ℤ_}
 use Rattle.numbers.specs.Whole.{filled, anyOf}
@@ -19,7 +20,6 @@ use Rattle.adjust.specs.Sections.{sectionsOf}
 use Rattle.adjust.specs.Line.{Frame, pointsAfter, points, frameOf, Closing, closing}
 use Rattle.adjust.specs.Frames.{noPoint, adjustedOf}
 use Rattle.adjust.specs.Call.{numberOf}
-use Rattle.adjust.proofs.Refused.{number-of-answer}
 use Rattle.adjust.proofs.Holding.{sections-holding, holding-again}
 use Rattle.book.specs.declared.Book.{Book}
 use Rattle.book.specs.declared.Change.{Change}
@@ -30,14 +30,16 @@ use Rattle.book.specs.Standing.{Standing, standingOf, bookWith}
 use Rattle.book.specs.Rules.{Call, open-line, station, end-run, drop-run, drop-section, close-line, inputTests, stateTests, bookRefusal}
 use Rattle.book.specs.Rules as Rules
 use Rattle.book.specs.Changes.{Makes}
-use Rattle.book.specs.Calls.{freshBook, bookAfter, outcome, closingOf, closeNumber, closeValues, closeAnswerOf, closeOutcome, gaveOf, figuresOf}
+use Rattle.book.specs.Calls.{freshBook, bookAfter, outcome, Answers, closingOf, closeNumber, closeValues, closeOutcome, gaveOf, figuresOf}
+use Rattle.book.proofs.Joined.{answers-as}
+use Rattle.book.proofs.Closable.{closes}
 use Rattle.ledger.specs.Plain as Plain
 use Rattle.ledger.specs.Plain.{Reading, freshReading, next, taken, refusal, after, refusals, given, closings, standing}
-use Rattle.ledger.specs.Claims.{ClosedOnce}
-use Rattle.ledger.specs.Trace.{Ensures, ChangeEnsures, MadeEnsures, FiguresEnsures, isClosing, closingIn, hadOf, Trace, done, call, close, made, made-closed, EveryTrace}
+use Rattle.ledger.specs.Claims.{ClosedOnce, takenOnly}
+use Rattle.ledger.specs.Trace.{Ensures, ChangeEnsures, MadeEnsures, FiguresEnsures, isClosing, closingIn, hadOf, Trace, done, call, close, made, made-closed, EveryTrace, EveryListMade, StruckOutOfBook}
 use Rattle.ledger.proofs.Follows.{follows}
 use Rattle.ledger.proofs.Whole.{Kept, next-kept, fresh-kept, calls-kept, same-refusal, no-shorter}
-use Rattle.ledger.proofs.Every.{every-list, same-figures, either, none-given}
+use Rattle.ledger.proofs.Every.{every-list, same-figures, either, none-given, struck-out}
 use Rattle.ledger.proofs.Again.{bookOf, holds-standing, fresh-holds, figures-again}
 
 -- ---- one call
@@ -92,28 +94,28 @@ gives b number end h = go (bookRefusal (standingOf b) (close-line number end)) (
     go n true = λ i. record { summary = gave .summary; points = points-back (b .line .start .height) end (b .line .start .number) (sectionsOf (b .sections)) h i } ∷ []
     go n false = refl
 
-pub close-number : (n : ℕ) (s : Summary) → closeNumber (closeAnswerOf n s) ≡ n
-close-number zero s = refl
-close-number (suc n) s = rw (eqb·suc-zero n) refl
-
 -- ---- a list of calls
 
-ensured : (b : Book) (c : Call) (o : Outcome) → Ensures b c o → o ≡ outcome b c
-ensured b (open-line order instrument number height) o h = h
-ensured b (station kb kf readings) o h = h
-ensured b (end-run number) o h = h
-ensured b drop-run o h = h
-ensured b drop-section o h = h
-ensured b (close-line number end) o h = absurd h
+-- what a call but closing ensures is that it answers
+meant : (b : Book) (c : Call) (o : Outcome) → isClosing c ≡ false → (Ensures b c o → Answers b c o) × (Answers b c o → Ensures b c o)
+meant b (open-line order instrument number height) o e = (λ h. h, λ h. h)
+meant b (station kb kf readings) o e = (λ h. h, λ h. h)
+meant b (end-run number) o e = (λ h. h, λ h. h)
+meant b drop-run o e = (λ h. h, λ h. h)
+meant b drop-section o e = (λ h. h, λ h. h)
+meant b (close-line number end) o e = no-true (sym e)
 
--- a call that is no closing gives nothing beside
-nothing-beside : (b : Book) (c : Call) (o : Outcome) → Ensures b c o → (r : Reading) → given r c ≡ []
-nothing-beside b (open-line order instrument number height) o h r = refl
-nothing-beside b (station kb kf readings) o h r = refl
-nothing-beside b (end-run number) o h r = refl
-nothing-beside b drop-run o h r = refl
-nothing-beside b drop-section o h r = refl
-nothing-beside b (close-line number end) o h r = absurd h
+-- every call is a closing or none
+closing-or-none : (c : Call) → ((number : ℤ) × ((end : ℤ) × (c ≡ close-line number end))) ⊎ (isClosing c ≡ false)
+closing-or-none (open-line order instrument number height) = inr refl
+closing-or-none (station kb kf readings) = inr refl
+closing-or-none (end-run number) = inr refl
+closing-or-none drop-run = inr refl
+closing-or-none drop-section = inr refl
+closing-or-none (close-line number end) = inl (number, (end, refl))
+
+not-closing : (b : Book) (c : Call) (o : Outcome) → Ensures b c o → isClosing c ≡ false
+not-closing b c o h = ⊎-elim (λ k. absurd (subst (λ (d : Call). Ensures b d o) (k .1 .1) h)) (λ e. e) (closing-or-none c)
 
 -- the change of each call
 changes : (b : Book) (c : Call) (x : Change) → ChangeEnsures b c x → Makes b c x
@@ -124,6 +126,7 @@ changes b drop-run x h = h
 changes b drop-section x h = h
 changes b (close-line number end) x h = h
 
+-- a call that is no closing gives nothing beside
 none-beside : (r : Reading) (c : Call) → isClosing c ≡ false → given r c ≡ []
 none-beside r (open-line order instrument number height) e = refl
 none-beside r (station kb kf readings) e = refl
@@ -171,21 +174,20 @@ traced : {b e : Book} {cs : List Call} {ns : List ℕ} {gs : List Closing} (r : 
 unfolding outcome closeOutcome
 traced r k p done = record { numbers = refl; gave = refl; book = p }
 traced r k p (call {b = b} {c = c} {cs = cs} o h t) =
-    let q : o ≡ outcome (bookOf r) c = ensured b c o h ∙ ap (λ (x : Book). outcome x c) p in
-    let rest = traced (next r c) (next-kept r c k) (ap (λ (x : Outcome). x .book) q ∙ left r k c) t in
-    let answered = ap (λ (x : Outcome). numberOf (x .answer)) q ∙ number-of-answer (bookRefusal (standingOf (bookOf r)) c) ∙ number r k c in
+    let n = not-closing b c o h in
+    let q = meant b c o n .0 h in
+    let rest = traced (next r c) (next-kept r c k) (ap (λ (x : Outcome). x .book) (q .0) ∙ ap (λ (x : Book). bookAfter x c) p ∙ left r k c) t in
+    let answered = q .1 ∙ ap (λ (x : Book). bookRefusal (standingOf x) c) p ∙ number r k c in
     record {
       numbers = λ i. answered i ∷ rest .numbers i;
-      gave = rest .gave ∙ ap (λ (l : List Closing). l ++ closings (next r c) cs) (sym (either (eqb (refusal r c) 0) (nothing-beside b c o h r)));
+      gave = rest .gave ∙ ap (λ (l : List Closing). l ++ closings (next r c) cs) (sym (either (eqb (refusal r c) 0) (none-beside r c n)));
       book = rest .book;
     }
 traced r k p (close {number = m} {end = end} {cs = cs} o h t) =
     let c : Call = close-line m end in
-    let q : o ≡ closeOutcome (bookOf r) m end = h ∙ ap (λ (x : Book). closeOutcome x m end) p in
+    let q : o ≡ closeOutcome (bookOf r) m end = h .0 ∙ ap (λ (x : Book). closeOutcome x m end) p in
     let rest = traced (next r c) (next-kept r c k) (ap (λ (x : CloseOutcome). x .book) q ∙ left r k c) t in
-    let answered =
-    ap (λ (x : CloseOutcome). closeNumber (x .answer)) q
-    ∙ close-number (bookRefusal (standingOf (bookOf r)) c) (closingOf (bookOf r) end .summary) ∙ number r k c in
+    let answered = h .1 .0 ∙ ap (λ (x : Book). bookRefusal (standingOf x) c) p ∙ number r k c in
     let held = sections-holding (freshBook .sections) (standing r .sections) in
     let few : length (sectionsOf (bookOf r .sections)) ≤ 64 = subst (λ (ss : List Section). length ss ≤ 64) (sym held) (k .few) in
     let gave =
@@ -259,3 +261,41 @@ every-trace b e calls ns gs f t =
           λ c x given. given ∙ ap figuresOf (s .book) ∙ figures-again r (calls-kept calls) (stage ∙ c) ∙ ap adjustedOf (same-figures calls (stage ∙ c));
       unclosed = λ n. s .gave ∙ none-given calls freshReading (λ c. n (sym stage ∙ c));
     }
+
+-- ---- every list of calls has a trace
+
+abbrev Made : Book → List Call → Type 0
+Made b calls = (ns : List ℕ) × ((gs : List Closing) × ((e : Book) × Trace b calls ns gs e))
+
+-- one call more, before a list that can be made of any book
+made-first : (b : Book) (c : Call) (cs : List Call) → ((m : Book) → Made m cs) → Made b (c ∷ cs)
+made-first b c cs rest = ⊎-elim closing other (closing-or-none c)
+  where
+    closing : ((number : ℤ) × ((end : ℤ) × (c ≡ close-line number end))) → Made b (c ∷ cs)
+    closing k =
+        let o : CloseOutcome = closeOutcome b (k .0) (k .1 .0) in
+        let t = rest (o .book) in
+        subst (λ (d : Call). Made b (d ∷ cs)) (sym (k .1 .1))
+        (closeNumber (o .answer) ∷ t .0, (gaveOf o ++ t .1 .0, (t .1 .1 .0, close o (closes b (k .0) (k .1 .0) refl) (t .1 .1 .1))))
+
+    other : isClosing c ≡ false → Made b (c ∷ cs)
+    other e =
+        let o : Outcome = outcome b c in
+        let t = rest (o .book) in
+        (numberOf (o .answer) ∷ t .0, (t .1 .0, (t .1 .1 .0, call o (meant b c o e .1 (answers-as b c refl)) (t .1 .1 .1))))
+
+made-list : (calls : List Call) (b : Book) → Made b calls
+made-list [] b = ([], ([], (b, done)))
+made-list (c ∷ cs) b = made-first b c cs (made-list cs)
+
+pub every-list-made : EveryListMade
+every-list-made = ((freshBook, refl), λ b calls. made-list calls b)
+
+-- ---- refused calls
+
+pub struck-out-of-book : StruckOutOfBook
+struck-out-of-book b c d e calls ms ns fs gs f t g u =
+    let x = every-trace b d (takenOnly freshReading calls) ms fs f t in
+    let y = every-trace c e calls ns gs g u in
+    let same = struck-out calls in
+    (x .book ∙ ap bookOf (same .0) ∙ sym (y .book), x .given ∙ same .1 ∙ sym (y .given))

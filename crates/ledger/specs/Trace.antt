@@ -36,7 +36,7 @@ use Rattle.book.proofs.changes.drop_section.Reads as drop-section-change-reads
 use Rattle.book.proofs.changes.close_line.Reads as close-line-change-reads
 use Rattle.book.proofs.changes.change.Reads as change-reads
 use Rattle.ledger.specs.Plain.{freshReading, after, refusals, closings, standing}
-use Rattle.ledger.specs.Claims.{ClosedOnce}
+use Rattle.ledger.specs.Claims.{ClosedOnce, takenOnly}
 
 abbrev pub FreshEnsures : Book → Type 0
 FreshEnsures b = fresh-reads.Learnt tt tt b tt
@@ -117,3 +117,15 @@ pub record SoundTrace (calls : List Call) (ns : List ℕ) (gs : List Closing) (e
 
 abbrev pub EveryTrace : Type 0
 EveryTrace = (b e : Book) (calls : List Call) (ns : List ℕ) (gs : List Closing) → FreshEnsures b → Trace b calls ns gs e → SoundTrace calls ns gs e
+
+-- the claim is not empty: there is a fresh book, and of every book every list of calls can be made
+abbrev pub EveryListMade : Type 0
+EveryListMade = ((b : Book) × FreshEnsures b) × ((b : Book) (calls : List Call) → (ns : List ℕ) × ((gs : List Closing) × ((e : Book) × Trace b calls ns gs e)))
+
+-- a list without its refused calls leaves the same book, and its closings give the same
+abbrev pub StruckOutOfBook : Type 0
+StruckOutOfBook =
+    (b c d e : Book) (calls : List Call) (ms ns : List ℕ) (fs gs : List Closing)
+    → FreshEnsures b → Trace b (takenOnly freshReading calls) ms fs d
+    → FreshEnsures c → Trace c calls ns gs e
+    → (d ≡ e) × (fs ≡ gs)
