@@ -1,15 +1,18 @@
 -- What is claimed of every text: the claim about every list of calls, of what the report prints.
 use mathlib.Core.Path.{_≡_}
-use mathlib.Core.List.{List, _∷_, _++_, map}
+use mathlib.Core.List.{List, [], _∷_, _++_, map}
 use Prim.Native.Nat.{ℕ}
+use Rattle.adjust.specs.Line.{Closing}
 use Rattle.book.specs.declared.Stage.the-variants.{Closed}
+use Rattle.book.specs.declared.Book.{Book}
 use Rattle.ledger.specs.Plain.{freshReading, closings}
 use Rattle.ledger.specs.Claims.{ClosedOnce}
+use Rattle.ledger.specs.Trace.{FreshEnsures, Trace}
 use Rattle.columns.specs.Buffers.{putAt}
 use Rattle.columns.specs.Lines.{heading, title}
 use Rattle.columns.specs.Texts.{lines, joined}
 use Rattle.fieldbook.specs.Text.{lineRefusals, readingAfter, callsOf, refusalsFrom}
-use Rattle.fieldbook.specs.Report.{refLine, closingLines, resultLines, textRefusal, bufferAfter}
+use Rattle.fieldbook.specs.Report.{refLine, closingLines, openLine, resultLines, textRefusal, bufferAfter}
 
 -- the lines' calls closed the line once and soundly, and that closing is what is printed
 pub record Printed (ls : List (List ℕ)) : Type 0 where
@@ -19,6 +22,17 @@ pub record Printed (ls : List (List ℕ)) : Type 0 where
 -- whatever the lines after the first, refused ones among them
 abbrev pub EveryText : Type 0
 EveryText = (ls : List (List ℕ)) → readingAfter freshReading ls .stage ≡ Closed → Printed ls
+
+-- what the report prints below its refusals, of closings that were given and of the book that was left
+abbrev pub madeLines : List Closing → Book → List (List ℕ)
+madeLines [] e = openLine (e .sections .count) ∷ []
+madeLines (g ∷ gs) e = closingLines g
+
+-- whoever makes the lines' calls of a fresh book one by one gets what the report prints
+abbrev pub TextAsMade : Type 0
+TextAsMade =
+    (ls : List (List ℕ)) (b e : Book) (ns : List ℕ) (gs : List Closing) → FreshEnsures b → Trace b (callsOf ls) ns gs e
+    → resultLines (readingAfter freshReading ls) ≡ madeLines gs e
 
 -- ---- the bytes of the buffer
 
