@@ -1,13 +1,14 @@
 -- Records read: a turn of the loop over a line's fields, and which lines are refused.
 use mathlib.Core.Path.{_≡_, refl, ap, _∙_}
-use mathlib.Core.Bool.{Bool, true, false, cond}
+use mathlib.Core.Bool.{Bool, true, false, not, cond}
 use mathlib.Core.List.{List, [], _∷_}
 use Prim.Native.Nat.{ℕ, _+_, _-_, _*_, _≤_, _<_}
 use native.Mathlib.Omega.{arith}
 use lib.IntN.{ℤ}
-use lib.Dec.{lit≤}
+use lib.Dec.{lit≤, eqb}
 use lib.ListN.{length, take, drop, length-drop}
 use lib.Seq.{drop-drop}
+use Rattle.numbers.specs.Tables.{firstOf}
 use Rattle.numbers.proofs.Tests.{by-test}
 use Rattle.columns.specs.declared.reader.Field.{Field}
 use Rattle.columns.specs.declared.reader.Field.the-variants.{Number, Bad}
@@ -15,9 +16,10 @@ use Rattle.columns.specs.declared.reader.Tag.{Tag}
 use Rattle.columns.specs.declared.reader.Tag.the-variants.{Lin, Sta, Run, Drr, Drs, End}
 use Rattle.columns.specs.declared.reader.Kind.{Kind}
 use Rattle.columns.specs.declared.reader.Kind.the-variants.{Record, Refused}
+use Rattle.columns.specs.declared.reader.Line.{Line}
 use Rattle.columns.specs.Decimals.{same, fieldOf}
 use Rattle.columns.specs.Lines.{lineEnd}
-use Rattle.columns.specs.Records.{letters, fieldCount, tags, tagAmong, isNumber, numberOf, allNumbers, numbersIn, refusedLine, recordLine, numbersLine, recordIn, lineOfKind, lineIn}
+use Rattle.columns.specs.Records.{letters, fieldCount, tags, tagAmong, isNumber, numberOf, allNumbers, numbersIn, refusedLine, recordLine, numbersLine, recordIn, lineOfKind, lineIn, kindNumber, kindTags, hasShape, hasNumbers, Parses}
 use Rattle.columns.proofs.Lists.{left-next, left-none}
 use Rattle.columns.proofs.Compare.{same-lengths}
 use Rattle.columns.proofs.Lines.{length-end}
@@ -118,3 +120,26 @@ line-length l h = go (tagAmong tags (take 3 l)) refl
         record-bad t l
         (same-lengths (drop m l) (lineEnd m) (λ q. h (omega (arith, length-drop m l, length-end m (omega arith)))))
     go (Refused k) e = ap refusedLine (other-tag tags (take 3 l) k e)
+
+-- ---- what is answered of a line
+
+-- of a record by its two tests
+answered : (t : Tag) (zs : List ℤ) (shape numbers : Bool)
+    → let x : Line = cond shape (cond numbers (recordLine t zs) (refusedLine 2)) (refusedLine 1) in
+    let n : ℕ = firstOf ((1, not shape) ∷ (2, not numbers) ∷ []) in
+    (kindNumber (x .kind) ≡ n) × (kindTags (x .kind) ≡ cond (eqb n 0) (t ∷ []) [])
+answered t zs true true = (refl, refl)
+answered t zs true false = (refl, refl)
+answered t zs false numbers = (refl, refl)
+
+pub parses : (l : List ℕ) {r : Line} → r ≡ lineIn l → Parses l r
+unfolding lineIn recordIn numbersLine
+parses l e =
+    let t = go (tagAmong tags (take 3 l)) refl in
+    (e, (ap (λ (x : Line). kindNumber (x .kind)) e ∙ t .0, ap (λ (x : Line). kindTags (x .kind)) e ∙ t .1))
+  where
+    go : (k : Kind) → tagAmong tags (take 3 l) ≡ k
+        → let n : ℕ = firstOf ((1, not (hasShape k l)) ∷ (2, not (hasNumbers k l)) ∷ []) in
+        (kindNumber (lineOfKind k l .kind) ≡ n) × (kindTags (lineOfKind k l .kind) ≡ cond (eqb n 0) (kindTags k) [])
+    go (Record t) f = answered t (numbersIn (fieldCount t) (drop 3 l)) (hasShape (Record t) l) (hasNumbers (Record t) l)
+    go (Refused n) f = (other-tag tags (take 3 l) n f, refl)

@@ -1,9 +1,12 @@
 -- What a line of the text book is: a record's tag with its numbers, or refused, by refusals 1 and 2 of document 01.
-use mathlib.Core.Bool.{Bool, true, false, cond}
+use mathlib.Core.Path.{_≡_}
+use mathlib.Core.Bool.{Bool, true, false, not, cond}
 use mathlib.Core.List.{List, [], _∷_}
 use Prim.Native.Nat.{ℕ, zero, suc, _+_, _*_}
+use lib.Dec.{eqb}
 use lib.IntN.{ℤ, pos}
 use lib.ListN.{take, drop, replicate}
+use Rattle.numbers.specs.Tables.{firstOf}
 use Rattle.columns.specs.declared.reader.Field.{Field}
 use Rattle.columns.specs.declared.reader.Field.the-variants.{Number, Bad}
 use Rattle.columns.specs.declared.reader.Tag.{Tag}
@@ -94,3 +97,34 @@ lineOfKind (Refused k) l = refusedLine k
 -- a line of the text book
 unfoldable pub lineIn : List ℕ → Line
 lineIn l = lineOfKind (tagAmong tags (take 3 l)) l
+
+-- ---- what is answered of a line
+
+-- document 01's number of a line, 0 for a record, and the record's tag
+abbrev pub kindNumber : Kind → ℕ
+kindNumber (Record t) = 0
+kindNumber (Refused n) = n
+
+abbrev pub kindTags : Kind → List Tag
+kindTags (Record t) = t ∷ []
+kindTags (Refused n) = []
+
+-- whether a line has the shape of its tag: blanks and a line feed behind the last field; a line without a tag has none
+abbrev pub hasShape : Kind → List ℕ → Bool
+hasShape (Record t) l = let from : ℕ = 3 + 8 * fieldCount t in same (drop from l) (lineEnd from)
+hasShape (Refused n) l = false
+
+-- whether each field of its tag is a number
+abbrev pub hasNumbers : Kind → List ℕ → Bool
+hasNumbers (Record t) l = allNumbers (fieldCount t) (drop 3 l)
+hasNumbers (Refused n) l = true
+
+-- document 01's tests of a line, in their order
+abbrev pub lineTests : List ℕ → List (ℕ × Bool)
+lineTests l = let k : Kind = tagAmong tags (take 3 l) in (1, not (hasShape k l)) ∷ (2, not (hasNumbers k l)) ∷ []
+
+-- r is the line that l is, and has, by `kindNumber` and `kindTags`, the number of the first test that holds, and its tag where none does
+abbrev pub Parses : List ℕ → Line → Type 0
+Parses l r =
+    let n : ℕ = firstOf (lineTests l) in
+    (r ≡ lineIn l) × ((kindNumber (r .kind) ≡ n) × (kindTags (r .kind) ≡ cond (eqb n 0) (kindTags (tagAmong tags (take 3 l))) []))

@@ -5,7 +5,7 @@ ghost use lib.ListN.{length, drop};
 ghost use Rattle.columns.specs.Decimals.{same, fieldOf};
 ghost use Rattle.columns.specs.Parser.{leadingBlanks, runOf, naturalOf, negated};
 ghost use Rattle.columns.specs.Lines.{lineEnd, heading};
-ghost use Rattle.columns.specs.Records.{tags, tagAmong, fieldCount, numbersLine, refusedLine, recordIn, lineIn};
+ghost use Rattle.columns.specs.Records.{tags, tagAmong, fieldCount, numbersLine, refusedLine, recordIn, Parses};
 use super::bytes::same_bytes;
 
 // A field of a line.
@@ -98,7 +98,7 @@ fn count_blanks(bs: &[u8]) -> usize
     i
 }
 
-// The number that stands in a field: each byte is read once.
+// The number that stands in a field.
 fn read_field(bs: &[u8]) -> Field
     requires { ⌜ length (now bs) ≤ 18 ⌝ }
     ensures { λ r. ⌜ r ≡ fieldOf (now (bs .entry)) ⌝ }
@@ -211,7 +211,7 @@ fn read_record(line: &[u8], tag: Tag) -> Line
 
 // A line of the text book: its tag and numbers, or its refusal.
 pub fn parse_line(line: &[u8]) -> Line
-    ensures { λ r. ⌜ r ≡ lineIn (now (line .entry)) ⌝ }
+    ensures { λ r. ⌜ Parses (now (line .entry)) r ⌝ }
 {
     if line.len() != 84 {
         return refused(1);

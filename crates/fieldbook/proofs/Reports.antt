@@ -5,7 +5,7 @@ use mathlib.Core.List.{List, [], _∷_, _++_, map}
 use Prim.Native.Nat.{ℕ, suc, _+_, _≤_, _<_}
 use native.Mathlib.Omega.{arith}
 use borrow.Author.Tests.{lt-ltb, le-ltb}
-use lib.Dec.{ltb}
+use lib.Dec.{ltb, eqb, eqb→eq}
 use lib.ListN.{length, length-map}
 use Rattle.numbers.specs.Whole.{anyOf}
 use Rattle.numbers.proofs.Tests.{by-test, is-true}
@@ -31,8 +31,10 @@ use Rattle.ledger.proofs.Whole.{Kept, fresh-kept, calls-kept}
 use Rattle.ledger.proofs.Again.{bookOf, fresh-holds, figures-again}
 use Rattle.ledger.proofs.Traced.{points-back}
 use Rattle.fieldbook.specs.declared.reading.State.{State}
+use Rattle.fieldbook.specs.declared.Reduced.{Reduced}
+use Rattle.fieldbook.specs.declared.Reduced.the-variants.{Written, Refused}
 use Rattle.fieldbook.specs.Text.{lineNext, lineRefusals, readingAfter, refusalsFrom, callsOf}
-use Rattle.fieldbook.specs.Report.{refLine, openLine, closingLines, resultLines, reportOf, withoutHeading, reportLines, report, textRefusal, bufferAfter, reducedAs, reducedOf, printedFor, printedInto, printedLength}
+use Rattle.fieldbook.specs.Report.{refLine, openLine, closingLines, resultLines, reportOf, withoutHeading, reportLines, report, textRefusal, bufferAfter, reducedNumber, reducedLength, reducedAs, reducedOf, Reduces, printedFor, printedInto, printedLength}
 use Rattle.fieldbook.specs.Fits.{closedFits, pointFits}
 use Rattle.fieldbook.specs.State.{lineCount, stateAfter}
 use Rattle.fieldbook.specs.Printed.{refusalBytes, closingIn, bookLines, stateLines, Printable}
@@ -151,6 +153,20 @@ module _ (t d : List ℕ) where
   pub answered : (n : ℕ) → textRefusal t d ≡ n → (reducedOf t d ≡ reducedAs n (length (report t))) × (bufferAfter t d ≡ cond (ltb 0 n) d (putAt d 0 (report t)))
   unfolding reducedOf bufferAfter
   answered n e = (ap (λ (k : ℕ). reducedAs k (length (report t))) e, ap (λ (k : ℕ). cond (ltb 0 k) d (putAt d 0 (report t))) e)
+
+  -- the number and the length that an answer has
+  pub reduces : {r : Reduced} → r ≡ reducedOf t d → Reduces t d r
+  unfolding reducedOf
+  reduces e =
+      let n : ℕ = textRefusal t d in
+      let long : ℕ = length (report t) in (
+        e,
+        (
+          ap reducedNumber e ∙ by-test (eqb n 0) (λ b. reducedNumber (cond b (Written long) (Refused n)) ≡ n) (λ b. sym (eqb→eq n 0 b)) (λ b. refl),
+          λ old. ap (λ (x : Reduced). reducedLength x old) e
+              ∙ by-test (eqb n 0) (λ b. reducedLength (cond b (Written long) (Refused n)) old ≡ cond b long old) (λ b. refl) (λ b. refl),
+        ),
+      )
 
   pub too-long : 65268 < length t → textRefusal t d ≡ 9
   unfolding textRefusal

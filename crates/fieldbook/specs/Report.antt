@@ -1,4 +1,5 @@
 -- The report of a text, byte for byte, and what the call that writes it leaves in the lent buffer.
+use mathlib.Core.Path.{_≡_}
 use mathlib.Core.Bool.{Bool, false, cond}
 use mathlib.Core.List.{List, [], _∷_, _++_, map}
 use Prim.Native.Nat.{ℕ}
@@ -103,6 +104,13 @@ reducedAs n long = cond (eqb n 0) (Written long) (Refused n)
 
 unfoldable pub reducedOf : List ℕ → List ℕ → Reduced
 reducedOf text buffer = reducedAs (textRefusal text buffer) (length (report text))
+
+-- r is that answer, and has, by `reducedNumber` and `reducedLength`, document 01's number and the report's length
+abbrev pub Reduces : List ℕ → List ℕ → Reduced → Type 0
+Reduces text buffer r =
+    let n : ℕ = textRefusal text buffer in
+    (r ≡ reducedOf text buffer)
+    × ((reducedNumber r ≡ n) × ((old : ℕ) → reducedLength r old ≡ cond (eqb n 0) (length (report text)) old))
 
 -- ---- the program
 

@@ -1,6 +1,6 @@
 // The text book and its report: from the bytes of a text to the bytes of a report.
 ghost use mathlib.Core.Path.{_≡_};
-ghost use Rattle.fieldbook.specs.Report.{bufferAfter, reducedNumber, reducedLength, reducedOf, printedInto, printedLength};
+ghost use Rattle.fieldbook.specs.Report.{bufferAfter, reducedNumber, reducedLength, reducedOf, Reduces, printedInto, printedLength};
 
 mod printing;
 mod reader;
@@ -14,7 +14,7 @@ pub enum Reduced {
 
 // The report of a text into a lent buffer; bytes beyond it keep their values.
 pub fn reduce_text(text: &[u8], report: &mut [u8]) -> Reduced
-    ensures { λ r. ⌜ r ≡ reducedOf (now (text .entry)) (now (report .entry)) ⌝ }
+    ensures { λ r. ⌜ Reduces (now (text .entry)) (now (report .entry)) r ⌝ }
     ensures { λ r. ⌜ now (report .exit) ≡ bufferAfter (now (text .entry)) (now (report .entry)) ⌝ }
 {
     if 65268 < text.len() {

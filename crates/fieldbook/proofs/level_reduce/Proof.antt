@@ -23,8 +23,8 @@ returns c =
     let r = c .before .before .before .before .before in
     let s = r .before .before .before .before in
     let e = r .reduce-text .ensures in (
-      c .number-of .ensures ∙ ap reducedNumber (e .0),
-      (e .1, c .before .length-of .ensures ∙ ap (λ (x : Reduced). reducedLength x (s .args .length .now)) (e .0)),
+      c .number-of .ensures ∙ ap reducedNumber (e .0 .0),
+      (e .1, c .before .length-of .ensures ∙ ap (λ (x : Reduced). reducedLength x (s .args .length .now)) (e .0 .0)),
     )
 
 pub level-reduce-spec : {M : Type 1} → statement M

@@ -51,7 +51,7 @@ returns-3 c =
     let room : 65536 ≤ length d = omega arith in
     let e = prints t d room (report t) (prints-report t short) in
     let a = answered t d 0 (not-refused t d short room) in (
-      c .length-of .ensures ∙ ap (λ (x : Reduced). reducedLength x 0) (r .reduce-text .ensures .0 ∙ a .0) ∙ sym (e .0),
+      c .length-of .ensures ∙ ap (λ (x : Reduced). reducedLength x 0) (r .reduce-text .ensures .0 .0 ∙ a .0) ∙ sym (e .0),
       r .reduce-text .ensures .1 ∙ a .1 ∙ sym (e .1),
     )
 

@@ -11,7 +11,7 @@ use Rattle.fieldbook.specs.declared.Reduced.the-variants.{Written}
 use Rattle.fieldbook.specs.Report.{report}
 use Rattle.fieldbook.specs.Printed.{stateLines, Printable}
 use Rattle.fieldbook.proofs.Bytes.{report-fits}
-use Rattle.fieldbook.proofs.Reports.{report-read, read-fits, answered, too-long, too-small, not-refused}
+use Rattle.fieldbook.proofs.Reports.{report-read, read-fits, answered, reduces, too-long, too-small, not-refused}
 use borrow.Author.Needs.{needs}
 use Rattle.fieldbook.proofs.reduce_text.Statement.{statement}
 use Rattle.fieldbook.proofs.reduce_text.Tie as tie
@@ -19,14 +19,18 @@ use Rattle.fieldbook.proofs.reduce_text.Tie as tie
 returns : tie.Need-returns
 returns c =
     let s = c .before .before .before in
-    let a = answered (s .args .text .now) (s .args .report .now) 9 (too-long (s .args .text .now) (s .args .report .now) (omega arith)) in
-    (sym (a .0), sym (a .1))
+    let t = s .args .text .now in
+    let d = s .args .report .now in
+    let a = answered t d 9 (too-long t d (omega arith)) in
+    (reduces t d (sym (a .0)), sym (a .1))
 
 returns-2 : tie.Need-returns-2
 returns-2 c =
     let s = c .before .before .before .before in
-    let a = answered (s .args .text .now) (s .args .report .now) 10 (too-small (s .args .text .now) (s .args .report .now) (omega arith) (omega arith)) in
-    (sym (a .0), sym (a .1))
+    let t = s .args .text .now in
+    let d = s .args .report .now in
+    let a = answered t d 10 (too-small t d (omega arith) (omega arith)) in
+    (reduces t d (sym (a .0)), sym (a .1))
 
 read-text-requires : tie.Need-read-text-requires
 read-text-requires c κs = search needs
@@ -63,7 +67,7 @@ returns-3 c =
     let t = s .args .text .now in
     let d = s .args .report .now in
     let a = answered t d 0 (not-refused t d (short r) (omega arith)) in (
-      ap Written (p .put-state .ensures .0 ∙ ap length (same r)) ∙ sym (a .0),
+      reduces t d (ap Written (p .put-state .ensures .0 ∙ ap length (same r)) ∙ sym (a .0)),
       p .put-state .ensures .1 ∙ ap (putAt d 0) (same r) ∙ sym (a .1),
     )
 

@@ -3,7 +3,7 @@ use mathlib.Core.Path.{sym, ap, _∙_}
 use borrow.Author.Needs.{needs}
 use Rattle.columns.specs.declared.reader.Kind.{Kind}
 use Rattle.columns.specs.Records.{lineOfKind, lineIn}
-use Rattle.columns.proofs.Records.{line-length}
+use Rattle.columns.proofs.Records.{line-length, parses}
 use Rattle.columns.proofs.reader.parse_line.Statement.{statement}
 use Rattle.columns.proofs.reader.parse_line.Tie as tie
 
@@ -11,7 +11,7 @@ refused-requires : tie.Need-refused-requires
 refused-requires c κs = search needs
 
 returns : tie.Need-returns
-returns c = c .refused .ensures ∙ sym (line-length (c .before .before .before .args .line .now) (c .before .if1 .taken))
+returns c = let l = c .before .before .before .args .line .now in parses l (c .refused .ensures ∙ sym (line-length l (c .before .if1 .taken)))
 
 sub-find-tag : tie.Need-sub-find-tag
 sub-find-tag c = search needs
@@ -42,14 +42,16 @@ unfolding lineIn
 returns-2 c =
     let k = c .before .before in
     let f = k .before .before in
-    c .read-record .ensures ∙ sym (ap (λ (x : Kind). lineOfKind x (f .before .before .before .before .args .line .now)) (sym (f .find-tag .ensures) ∙ k .kind .given .1))
+    let l = f .before .before .before .before .args .line .now in
+    parses l (c .read-record .ensures ∙ sym (ap (λ (x : Kind). lineOfKind x l) (sym (f .find-tag .ensures) ∙ k .kind .given .1)))
 
 returns-3 : tie.Need-returns-3
 unfolding lineIn
 returns-3 c =
     let k = c .before .before in
     let f = k .before .before in
-    c .refused2 .ensures ∙ sym (ap (λ (x : Kind). lineOfKind x (f .before .before .before .before .args .line .now)) (sym (f .find-tag .ensures) ∙ k .kind2 .given .1))
+    let l = f .before .before .before .before .args .line .now in
+    parses l (c .refused2 .ensures ∙ sym (ap (λ (x : Kind). lineOfKind x l) (sym (f .find-tag .ensures) ∙ k .kind2 .given .1)))
 
 pub parse-line-spec : {M : Type 1} → statement M
 parse-line-spec =

@@ -1,7 +1,7 @@
 -- `take_line` meets its contract: for line 1, without a heading, and for a record, which may finish a section.
 use mathlib.Core.Path.{_≡_, sym, ap, _∙_}
 use mathlib.Core.Bool.{false}
-use lib.ListN.{set}
+use lib.ListN.{length, set}
 use Rattle.columns.specs.Records.{lineIn}
 use Rattle.book.specs.declared.Book.{Book}
 use Rattle.book.specs.declared.Change.{Change}
@@ -35,8 +35,11 @@ parse-line-requires c κs = search needs
 line-change-requires : tie.Need-line-change-requires
 line-change-requires c κs = search needs
 
+places : (s : tie.Start) → length (s .args .s .refusals) ≡ 778
+places s = search needs
+
 slice-aggregate-set-refusal : tie.Need-slice-aggregate-set-refusal
-slice-aggregate-set-refusal c = search needs
+slice-aggregate-set-refusal c = search (needs, places (c .before .before .before .before .before .before .before .before))
 
 set-refusal-requires : tie.Need-set-refusal-requires
 set-refusal-requires c κs = search needs
@@ -53,7 +56,7 @@ module _ (c : tie.After-refusals3) where
   change = c .before .before .before .line-change .result
 
   stepped : record { number = change .number; book = changed (began .args .s .book) change } ≡ lineStep (began .args .s .book) (lineIn (began .args .line .now))
-  stepped = c .before .before .before .line-change .ensures ∙ ap (lineStep (began .args .s .book)) (c .before .before .before .before .parse-line .ensures)
+  stepped = c .before .before .before .line-change .ensures ∙ ap (lineStep (began .args .s .book)) (c .before .before .before .before .parse-line .ensures .0)
 
   with-record : record { book = changed (began .args .s .book) change; refusals = set (began .args .s .refusals) (began .args .number) (change .number) }
       ≡ stateWith (began .args .s) (began .args .line .now) (began .args .number)
