@@ -18,7 +18,7 @@ use Rattle.book.specs.Standing.{isClosed}
 use Rattle.ledger.specs.Plain.{Reading, freshReading, after, figuresOf}
 use Rattle.ledger.proofs.Drops.{after-append}
 use Rattle.ledger.proofs.Every.{every-list, same-figures}
-use Rattle.fieldbook.specs.Text.{callsIn, lineNext, lineRefusals, readingAfter, callsOf, refusalsFrom}
+use Rattle.textbook.specs.Text.{callsIn, lineNext, lineRefusals, readingAfter, callsOf, refusalsFrom}
 use Rattle.fieldbook.specs.Report.{refLine, closingLines, openLine, reportOf, withoutHeading, reportLines, report, bufferAfter}
 use Rattle.fieldbook.specs.Claims.{EveryText, EveryReport}
 

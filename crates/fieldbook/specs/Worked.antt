@@ -13,7 +13,7 @@ use Rattle.columns.specs.Decimals.{blanks, digitsBy, digits, decimal, fitsIn, p
 use Rattle.columns.specs.Lines.{lineEnd, lineWith, widthOf, fields, allFit, columnsOf, lineFits, tagLine, isWide, heading, title}
 use Rattle.columns.specs.Records.{letters, tagAmong, allNumbers, numbersIn, numbersLine, recordIn, lineIn}
 use Rattle.runner.specs.Calls as Calls
-use Rattle.fieldbook.specs.Text.{refusalsFrom}
+use Rattle.textbook.specs.Text.{refusalsFrom}
 use Rattle.fieldbook.specs.Report.{reportLines}
 
 abbrev line : Tag → List ℤ → List ℕ
