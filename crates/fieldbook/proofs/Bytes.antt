@@ -17,7 +17,7 @@ use Rattle.book.specs.declared.Stage.the-variants.{Fresh, Open, Closed}
 use Rattle.book.specs.Standing.{isClosed}
 use Rattle.ledger.specs.Plain.{Reading, freshReading, sectionOf, figuresOf}
 use Rattle.ledger.proofs.Traced.{points-length}
-use Rattle.fieldbook.specs.Text.{Refusal, lineRefusals, refusalsFrom, readingAfter}
+use Rattle.textbook.specs.Text.{Refusal, lineRefusals, refusalsFrom, readingAfter}
 use Rattle.fieldbook.specs.Report.{refLine, closedNumbers, pointNumbers, pointLine, openLine, closingLines, resultLines, reportOf, withoutHeading, reportLines, report}
 use Rattle.fieldbook.specs.Fits.{ReportFits}
 use Rattle.fieldbook.proofs.Size.{stageLines, waitingLines, least, lines-count}

@@ -26,7 +26,7 @@ use Rattle.ledger.proofs.Drops.{after-append}
 use Rattle.ledger.proofs.Every.{every-list, same-figures, none-given}
 use Rattle.ledger.proofs.Whole.{open-not-closed, fresh-not-closed}
 use Rattle.ledger.proofs.Traced.{every-trace}
-use Rattle.fieldbook.specs.Text.{callsIn, lineNext, lineRefusals, readingAfter, callsOf, refusalsFrom}
+use Rattle.textbook.specs.Text.{callsIn, lineNext, lineRefusals, readingAfter, callsOf, refusalsFrom}
 use Rattle.fieldbook.specs.Report.{refLine, closingLines, openLine, reportOf, withoutHeading, resultLines, reportLines, report, bufferAfter}
 use Rattle.fieldbook.specs.Claims.{madeLines, EveryText, TextAsMade, EveryReport}
 

@@ -30,18 +30,18 @@ use Rattle.ledger.specs.Plain.{Reading, freshReading, after, standing, sectionO
 use Rattle.ledger.proofs.Whole.{Kept, fresh-kept, calls-kept}
 use Rattle.ledger.proofs.Again.{bookOf, fresh-holds, figures-again}
 use Rattle.ledger.proofs.Traced.{points-back}
-use Rattle.fieldbook.specs.declared.reading.State.{State}
+use Rattle.textbook.specs.declared.reading.State.{State}
 use Rattle.fieldbook.specs.declared.Reduced.{Reduced}
 use Rattle.fieldbook.specs.declared.Reduced.the-variants.{Written, Refused}
-use Rattle.fieldbook.specs.Text.{lineNext, lineRefusals, readingAfter, refusalsFrom, callsOf}
+use Rattle.textbook.specs.Text.{lineNext, lineRefusals, readingAfter, refusalsFrom, callsOf}
 use Rattle.fieldbook.specs.Report.{refLine, openLine, closingLines, resultLines, reportOf, withoutHeading, reportLines, report, textRefusal, bufferAfter, reducedNumber, reducedLength, reducedAs, reducedOf, Reduces, printedFor, printedInto, printedLength}
 use Rattle.fieldbook.specs.Fits.{closedFits, pointFits}
-use Rattle.fieldbook.specs.State.{lineCount, stateAfter}
+use Rattle.textbook.specs.State.{lineCount, stateAfter}
 use Rattle.fieldbook.specs.Printed.{refusalBytes, closingIn, bookLines, stateLines, Printable}
 use Rattle.fieldbook.proofs.Bytes.{text-lines}
 use Rattle.fieldbook.proofs.Calls.{reading-calls}
 use Rattle.fieldbook.proofs.Widths.{figures-fit}
-use Rattle.fieldbook.proofs.Lines.{read, unread, stateOf, text-state, refusals-filled}
+use Rattle.textbook.proofs.Lines.{read, unread, stateOf, text-state, refusals-filled}
 
 -- ---- the book of a reading
 

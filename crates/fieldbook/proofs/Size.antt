@@ -23,7 +23,7 @@ use Rattle.book.specs.Rules.{Call, open-line, station, end-run, drop-run, drop-
 use Rattle.ledger.specs.Plain.{Reading, Awaited, refusal, taken, runEnded, standing}
 use Rattle.ledger.proofs.Lowest.{fails}
 use Rattle.ledger.proofs.Follows.{recast}
-use Rattle.fieldbook.specs.Text.{Refusal, callOf, lineRefusal, lineNext, lineRefusals, refusalsFrom, readingAfter}
+use Rattle.textbook.specs.Text.{Refusal, callOf, lineRefusal, lineNext, lineRefusals, refusalsFrom, readingAfter}
 
 -- ---- so many lines at least a reading has taken
 

@@ -26,7 +26,7 @@ use Rattle.columns.proofs.Lines.{length-line, length-title}
 use Rattle.book.specs.Standing.{Standing, isClosed}
 use Rattle.book.specs.Rules.{Call, open-line, station, end-run, drop-run, drop-section, close-line, inputTests, stateTests}
 use Rattle.ledger.specs.Plain.{Reading, freshReading, after, standing, sectionOf, figuresOf}
-use Rattle.fieldbook.specs.Text.{Refusal, callOf, lineRefusal, lineNext, lineRefusals, readingAfter, callsOf, refusalsFrom}
+use Rattle.textbook.specs.Text.{Refusal, callOf, lineRefusal, lineNext, lineRefusals, readingAfter, callsOf, refusalsFrom}
 use Rattle.fieldbook.specs.Report.{refLine, closedNumbers, closedLine, pointLine, openLine, closingLines, resultLines, reportOf, withoutHeading, reportLines}
 use Rattle.fieldbook.specs.Fits.{pointFits, ReportWhole}
 use Rattle.fieldbook.proofs.Calls.{reading-calls}

@@ -25,8 +25,8 @@ use Rattle.columns.proofs.Texts.{joined-append}
 use Rattle.book.specs.declared.Book.{Book}
 use Rattle.book.specs.Standing.{isClosed}
 use Rattle.book.specs.Calls.{figuresOf}
-use Rattle.fieldbook.specs.declared.reading.State.{State}
-use Rattle.fieldbook.specs.Text.{Refusal, refusalsFrom}
+use Rattle.textbook.specs.declared.reading.State.{State}
+use Rattle.textbook.specs.Text.{Refusal, refusalsFrom}
 use Rattle.fieldbook.specs.Report.{refLine, closedNumbers, closedLine, pointNumbers, pointLine, openLine, closingLines}
 use Rattle.fieldbook.specs.Fits.{pointFits}
 use Rattle.fieldbook.specs.Printed.{refusalBytes, refusalLines, closingIn, bookLines, stateLines, pointsFit, ClosingFits}

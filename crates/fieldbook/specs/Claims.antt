@@ -11,7 +11,7 @@ use Rattle.ledger.specs.Trace.{FreshEnsures, Trace}
 use Rattle.columns.specs.Buffers.{putAt}
 use Rattle.columns.specs.Lines.{heading, title}
 use Rattle.columns.specs.Texts.{lines, joined}
-use Rattle.fieldbook.specs.Text.{lineRefusals, readingAfter, callsOf, refusalsFrom}
+use Rattle.textbook.specs.Text.{lineRefusals, readingAfter, callsOf, refusalsFrom}
 use Rattle.fieldbook.specs.Report.{refLine, closingLines, openLine, resultLines, textRefusal, bufferAfter}
 
 -- the lines' calls closed the line once and soundly, and that closing is what is printed

@@ -1,5 +1,3 @@
-pub mod Text
-pub mod State
 pub mod Report
 pub mod Fits
 pub mod Printed

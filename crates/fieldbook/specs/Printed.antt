@@ -13,8 +13,8 @@ use Rattle.columns.specs.Lines.{title}
 use Rattle.book.specs.declared.Book.{Book}
 use Rattle.book.specs.Standing.{isClosed}
 use Rattle.book.specs.Calls.{figuresOf}
-use Rattle.fieldbook.specs.declared.reading.State.{State}
-use Rattle.fieldbook.specs.Text.{refusalsFrom}
+use Rattle.textbook.specs.declared.reading.State.{State}
+use Rattle.textbook.specs.Text.{refusalsFrom}
 use Rattle.fieldbook.specs.Report.{refLine, openLine, closingLines}
 use Rattle.fieldbook.specs.Fits.{closedFits, pointFits}
 

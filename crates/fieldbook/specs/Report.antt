@@ -18,7 +18,7 @@ use Rattle.book.specs.Standing.{isClosed}
 use Rattle.ledger.specs.Plain.{Reading, freshReading, figuresOf}
 use Rattle.fieldbook.specs.declared.Reduced.{Reduced}
 use Rattle.fieldbook.specs.declared.Reduced.the-variants.{Written, Refused}
-use Rattle.fieldbook.specs.Text.{Refusal, lineRefusals, refusalsFrom, readingAfter}
+use Rattle.textbook.specs.Text.{Refusal, lineRefusals, refusalsFrom, readingAfter}
 
 -- ---- its lines
 

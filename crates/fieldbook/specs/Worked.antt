@@ -13,7 +13,7 @@ use Rattle.columns.specs.Lines.{lineEnd, lineWith, widthOf, fields, allFit, col
 use Rattle.columns.specs.Records.{tagAmong, allNumbers, numbersIn, numbersLine, recordIn, lineIn}
 use Rattle.columns.specs.Texts.{linesBy, lines, joined}
 use Rattle.runner.specs.Calls as Calls
-use Rattle.fieldbook.specs.Text.{refusalsFrom}
+use Rattle.textbook.specs.Text.{refusalsFrom}
 use Rattle.fieldbook.specs.Report.{report}
 
 -- the bytes of a text in ASCII

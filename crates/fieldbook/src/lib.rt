@@ -1,10 +1,9 @@
 // The text book and its report: from the bytes of a text to the bytes of a report.
 ghost use mathlib.Core.Path.{_≡_};
 ghost use Rattle.fieldbook.specs.Report.{bufferAfter, reducedNumber, reducedLength, reducedOf, Reduces, printedInto, printedLength};
+use textbook::reader::read_text;
 
 mod printing;
-mod reader;
-mod reading;
 
 // The report's length, or the refusal number of document 01.
 pub enum Reduced {
@@ -23,7 +22,7 @@ pub fn reduce_text(text: &[u8], report: &mut [u8]) -> Reduced
     if report.len() < 65536 {
         return Reduced::Refused(10);
     }
-    Reduced::Written(printing::put_state(report, reader::read_text(text)))
+    Reduced::Written(printing::put_state(report, read_text(text)))
 }
 
 fn number_of(r: Reduced) -> u8

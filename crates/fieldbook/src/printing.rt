@@ -9,7 +9,6 @@ ghost use Rattle.columns.specs.Texts.{joined};
 ghost use Rattle.fieldbook.specs.Report.{closedLine, pointLine, openLine, closingLines};
 ghost use Rattle.fieldbook.specs.Fits.{closedFits, pointFits};
 ghost use Rattle.fieldbook.specs.Printed.{refusalBytes, refusalLines, closingIn, bookLines, stateLines, pointsFit, ClosingFits, Printable};
-use super::reading::State;
 use adjust::Adjusted;
 use adjust::Point;
 use adjust::Summary;
@@ -19,6 +18,7 @@ use book::state::is_closed;
 use columns::writer::is_wide;
 use columns::writer::put_line;
 use columns::writer::put_title;
+use textbook::reading::State;
 
 // The refusal of a line, where there is one: the index after it.
 pub(crate) fn put_refusal(buf: &mut [u8], at: usize, line: usize, number: u8) -> usize

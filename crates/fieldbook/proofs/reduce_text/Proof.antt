@@ -6,7 +6,7 @@ use native.Mathlib.Omega.{arith}
 use lib.ListN.{length}
 use Rattle.columns.specs.Buffers.{putAt}
 use Rattle.columns.specs.Texts.{joined}
-use Rattle.fieldbook.specs.declared.reading.State.{State}
+use Rattle.textbook.specs.declared.reading.State.{State}
 use Rattle.fieldbook.specs.declared.Reduced.the-variants.{Written}
 use Rattle.fieldbook.specs.Report.{report}
 use Rattle.fieldbook.specs.Printed.{stateLines, Printable}
