@@ -4,7 +4,7 @@ use mathlib.Core.Bool.{Bool, true, not, cond, _&&_, _||_}
 use lib.Dec.{eqb}
 use lib.IntN.{ℤ}
 use Rattle.numbers.proofs.Tests.{or-r, not-false}
-use Rattle.numbers.proofs.Tables.{all-fail}
+use Rattle.numbers.proofs.Tables.{failed}
 use Rattle.adjust.specs.Sections.{sectionsOf, heightInRange}
 use Rattle.adjust.specs.Frames.{figuresFit, adjustedOf, nothing, adjustedIfFit}
 use Rattle.book.specs.declared.Book.{Book}
@@ -24,9 +24,8 @@ module _ (b : Book) (number end : ℤ) (taken : bookRefusal (standingOf b) (clos
       let v = standingOf b in
       let parts = taken-parts v (close-line number end) taken in
       let empty = isEmpty (sectionsOf (b .sections)) in
-      let state = all-fail (stateTests v (close-line number end)) refl (parts .2) in
-      let some = or-r (not (eqb (b .line .present .count) 0) || isReturn (b .line .waiting)) empty (state .1 .0) in
-      let known = not-false (heightInRange end) (all-fail (inputTests (close-line number end)) refl (parts .0) .1 .0) in
+      let some = or-r (not (eqb (b .line .present .count) 0) || isReturn (b .line .waiting)) empty (failed (stateTests v (close-line number end)) refl (parts .2) 33) in
+      let known = not-false (heightInRange end) (failed (inputTests (close-line number end)) refl (parts .0) 5) in
       λ i. some-long (sectionsOf (b .sections)) some i && not (whole .fit i) && whole .start i && known i
 
   pub formulas : adjustedIfFit (b .line .order) (b .line .start) end (sectionsOf (b .sections)) ≡ adjustedOf (closingOf b end)

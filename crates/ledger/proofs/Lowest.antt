@@ -1,10 +1,11 @@
 -- A call is refused with the lowest number that applies, 31 coming before 30, and is taken where none applies; a call that is taken fails every test.
 use mathlib.Core.Path.{_≡_, refl}
-use mathlib.Core.Bool.{true}
+use mathlib.Core.Bool.{true, false}
 use mathlib.Core.List.{_∷_, _++_}
+use Prim.Native.Nat.{ℕ}
 use lib.IntN.{ℤ}
 use Rattle.numbers.specs.Tables.{Lowest}
-use Rattle.numbers.proofs.Tables.{numbered, AllFail, all-fail, rises, first-lowest}
+use Rattle.numbers.proofs.Tables.{numbered, testOf, failed, rises, first-lowest}
 use Rattle.book.specs.Standing.{Standing, broken}
 use Rattle.book.specs.Rules.{Call, open-line, station, end-run, drop-run, drop-section, close-line, inputTests, stateTests, refusal, bookRefusal}
 use Rattle.ledger.specs.Claims.{before30, LowestGiven}
@@ -57,5 +58,5 @@ pub book-lowest : LowestGiven
 unfolding bookRefusal
 book-lowest v c = first-lowest before30 (inputTests c ++ ((20, broken v) ∷ stateTests v c)) 0 (book-rising v c)
 
-pub fails : (v : Standing) (c : Call) → refusal v c ≡ 0 → AllFail (inputTests c ++ stateTests v c)
-fails v c e = all-fail (inputTests c ++ stateTests v c) (no-zero v c) e
+pub fails : (v : Standing) (c : Call) → refusal v c ≡ 0 → (n : ℕ) → testOf n (inputTests c ++ stateTests v c) ≡ false
+fails v c e = failed (inputTests c ++ stateTests v c) (no-zero v c) e

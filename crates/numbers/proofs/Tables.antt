@@ -9,7 +9,7 @@ use native.Mathlib.Omega.{arith}
 use borrow.Author.Tests.{eq-eqb, ne-eqb}
 use lib.Dec.{ltb, eqb, ltb→lt}
 use Rattle.numbers.specs.Tables.{firstOf, Applies, Lowest, none-applies, applies}
-use Rattle.numbers.proofs.Tests.{holds, no-true, and-l, and-r, not-true}
+use Rattle.numbers.proofs.Tests.{by-test, holds, no-true, and-l, and-r, not-true}
 
 -- ---- a call that is taken fails every test, and one that meets a test is refused
 
@@ -22,18 +22,19 @@ without n (t ∷ ts) = not (eqb (t .0) n) && without n ts
 abbrev pub numbered : List (ℕ × Bool) → Bool
 numbered ts = without 0 ts
 
-abbrev pub AllFail : List (ℕ × Bool) → Type 0
-AllFail [] = Unit {0}
-AllFail (t ∷ ts) = (t .1 ≡ false) × AllFail ts
+-- the test with the number n
+abbrev pub testOf : ℕ → List (ℕ × Bool) → Bool
+testOf n [] = false
+testOf n (t ∷ ts) = cond (eqb (t .0) n) (t .1) (testOf n ts)
 
-pub all-fail : (ts : List (ℕ × Bool)) → numbered ts ≡ true → firstOf ts ≡ 0 → AllFail ts
-all-fail [] k e = tt
-all-fail (t ∷ ts) k e =
-    go (t .0) (t .1) (and-l (not (eqb (t .0) 0)) (numbered ts) k) (all-fail ts (and-r (not (eqb (t .0) 0)) (numbered ts) k)) e
+pub failed : (ts : List (ℕ × Bool)) → numbered ts ≡ true → firstOf ts ≡ 0 → (n : ℕ) → testOf n ts ≡ false
+failed [] k e n = refl
+failed (t ∷ ts) k e n = go (t .1) (and-l (not (eqb (t .0) 0)) (numbered ts) k) (λ f. failed ts (and-r (not (eqb (t .0) 0)) (numbered ts) k) f n) e
   where
-    go : (n : ℕ) (b : Bool) → not (eqb n 0) ≡ true → (firstOf ts ≡ 0 → AllFail ts) → cond b n (firstOf ts) ≡ 0 → (b ≡ false) × AllFail ts
-    go n true h g e = no-true (subst (λ (m : ℕ). not (eqb m 0) ≡ true) e h)
-    go n false h g e = (refl, g e)
+    go : (b : Bool) → not (eqb (t .0) 0) ≡ true → (firstOf ts ≡ 0 → testOf n ts ≡ false) → cond b (t .0) (firstOf ts) ≡ 0
+        → cond (eqb (t .0) n) b (testOf n ts) ≡ false
+    go true h g e = no-true (subst (λ (m : ℕ). not (eqb m 0) ≡ true) e h)
+    go false h g e = by-test (eqb (t .0) n) (λ s. cond s false (testOf n ts) ≡ false) (λ s. refl) (λ s. g e)
 
 -- whatever stands before a test that holds
 pub met : (ts : List (ℕ × Bool)) (n : ℕ) → numbered ts ≡ true → eqb n 0 ≡ false → eqb (firstOf (ts ++ ((n, true) ∷ []))) 0 ≡ false
@@ -53,6 +54,15 @@ first-append (t ∷ ts) us k = go (t .1) (first-append ts us (and-r (not (eqb (t
         → cond b (t .0) (firstOf (ts ++ us)) ≡ cond (eqb (cond b (t .0) (firstOf ts)) 0) (firstOf us) (cond b (t .0) (firstOf ts))
     go true g = sym (rw (not-true (eqb (t .0) 0) (and-l (not (eqb (t .0) 0)) (numbered ts) k)))
     go false g = g
+
+-- where a table gives no number, its first part gives none
+pub first-none : (ts us : List (ℕ × Bool)) → firstOf (ts ++ us) ≡ 0 → firstOf ts ≡ 0
+first-none [] us e = refl
+first-none (t ∷ ts) us e = go (t .1) (first-none ts us) e
+  where
+    go : (b : Bool) → (firstOf (ts ++ us) ≡ 0 → firstOf ts ≡ 0) → cond b (t .0) (firstOf (ts ++ us)) ≡ 0 → cond b (t .0) (firstOf ts) ≡ 0
+    go true g e = e
+    go false g e = g e
 
 -- a test that fails stands in a table for nothing
 pub first-skips : (ts us : List (ℕ × Bool)) (n : ℕ) → firstOf (ts ++ ((n, false) ∷ us)) ≡ firstOf (ts ++ us)

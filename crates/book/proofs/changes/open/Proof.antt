@@ -2,7 +2,7 @@
 use mathlib.Core.Path.{_≡_, refl, sym, _∙_}
 use mathlib.Core.List.{[]}
 use Rattle.numbers.proofs.Tests.{not-false}
-use Rattle.numbers.proofs.Tables.{all-fail}
+use Rattle.numbers.proofs.Tables.{failed}
 use Rattle.numbers.proofs.Machine.{stored}
 use Rattle.adjust.specs.Sections.{sectionsOf}
 use Rattle.adjust.proofs.Holding.{Whole}
@@ -48,7 +48,7 @@ no-section e =
     let r = e .before in
     let b = r .before .args .b in
     let parts = taken-parts (standingOf b) (asked (r .before)) (sym (r .open-refusal .ensures) ∙ e .if1 .left) in
-    fresh-none b (parts .1) (not-false (isFresh (b .line .stage)) (all-fail (stateTests (standingOf b) (asked (r .before))) refl (parts .2) .0))
+    fresh-none b (parts .1) (not-false (isFresh (b .line .stage)) (failed (stateTests (standingOf b) (asked (r .before))) refl (parts .2) 21))
 
 returns-2 : tie.Need-returns-2
 returns-2 c =

@@ -9,7 +9,7 @@ use lib.IntN.{ℤ}
 use mir.Syntax.{w64}
 use mir.Val.{SFits}
 use Rattle.numbers.proofs.Tests.{fails}
-use Rattle.numbers.proofs.Tables.{all-fail}
+use Rattle.numbers.proofs.Tables.{failed}
 use Rattle.numbers.proofs.Machine.{stored-id}
 use Rattle.adjust.specs.declared.Section.{Section}
 use Rattle.adjust.specs.Sections.{sectionsOf}
@@ -36,8 +36,8 @@ whole s = unbroken (s .args .b) (taken-parts (standingOf (s .args .b)) (end-run 
 room : (s : tie.Start) → isReturn (s .args .b .line .waiting) ≡ false → s .args .b .sections .count < 64
 room s e =
     let b = s .args .b in
-    let f = all-fail (stateTests (standingOf b) (end-run (s .args .number))) refl (taken-parts (standingOf b) (end-run (s .args .number)) (s .pre) .2) in
-    let full = ap (λ (t : Bool). not t && leb 64 (length (sectionsOf (b .sections)))) (sym e) ∙ f .1 .1 .0 in
+    let none = failed (stateTests (standingOf b) (end-run (s .args .number))) refl (taken-parts (standingOf b) (end-run (s .args .number)) (s .pre) .2) 31 in
+    let full = ap (λ (t : Bool). not t && leb 64 (length (sectionsOf (b .sections)))) (sym e) ∙ none in
     omega (arith, from-length (b .sections) 0 (b .sections .count), nleb→lt 64 (length (sectionsOf (b .sections))) (fails full))
 
 outward-ended-requires : tie.Need-outward-ended-requires
