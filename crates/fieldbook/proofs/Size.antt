@@ -21,7 +21,7 @@ use Rattle.book.specs.declared.Stage.the-variants.{Fresh, Open, Closed}
 use Rattle.book.specs.Standing.{isOpen}
 use Rattle.book.specs.Rules.{Call, open-line, station, end-run, drop-run, drop-section, close-line}
 use Rattle.ledger.specs.Plain.{Reading, Awaited, refusal, taken, runEnded, standing}
-use Rattle.ledger.proofs.Lowest.{fails}
+use Rattle.book.proofs.Tables.{fails}
 use Rattle.ledger.proofs.Follows.{recast}
 use Rattle.fieldbook.specs.Text.{Refusal, callOf, lineRefusal, lineNext, lineRefusals, refusalsFrom, readingAfter}
 

@@ -28,7 +28,7 @@ use Rattle.columns.proofs.Lines.{columns-range, fits-room, height-fits}
 use Rattle.book.specs.Standing.{Standing, isShut}
 use Rattle.book.specs.Rules.{close-line, lengthLimit, closureWithin, refusal, taken}
 use Rattle.ledger.specs.Plain.{Reading, freshReading, after, figuresOf, standing}
-use Rattle.ledger.proofs.Lowest.{fails}
+use Rattle.book.proofs.Tables.{fails}
 use Rattle.ledger.proofs.Runs.{narrow}
 use Rattle.ledger.proofs.Whole.{Kept, calls-kept}
 use Rattle.ledger.proofs.Every.{every-list}

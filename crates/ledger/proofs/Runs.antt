@@ -31,7 +31,7 @@ use Rattle.adjust.specs.Sections.{sectionFits}
 use Rattle.book.specs.declared.Run.{Run}
 use Rattle.book.specs.Standing.{Standing, noRun, withStation, oneWay, bothWays, runFits}
 use Rattle.book.specs.Rules.{station, stateTests, discrepancyWithin, refusal}
-use Rattle.ledger.proofs.Lowest.{fails}
+use Rattle.book.proofs.Tables.{fails}
 
 pub record Sized (u : Run) : Type 0 where
   pub count : u .count ≤ 200

@@ -28,10 +28,10 @@ use Rattle.book.specs.declared.Waiting.{Waiting}
 use Rattle.book.specs.declared.Waiting.the-variants.{Nothing, Outward}
 use Rattle.book.specs.Standing.{Standing, isFresh, isOpen, isShut, isEmpty, isReturn, outwardOrReturn, noRun, oneWay, bothWays, twoWay, waitingBroken, misplaced, broken}
 use Rattle.book.specs.Rules.{Call, open-line, station, end-run, drop-run, drop-section, close-line, inputTests, stateTests, refusal, bookRefusal, numberInRange, discrepancyWithin, withRuns, withSection, runEnded, taken}
+use Rattle.book.proofs.Tables.{fails}
 use Rattle.ledger.specs.Plain as Plain
 use Rattle.ledger.specs.Plain.{Reading, freshReading, after, next, standing}
 use Rattle.ledger.proofs.Follows.{follows}
-use Rattle.ledger.proofs.Lowest.{fails}
 use Rattle.ledger.proofs.Runs.{Sized, no-run-sized, station-sized, run-fits, one-way-fits, both-ways-fits, narrow, one-way-narrow, both-ways-narrow}
 
 -- ---- stages

@@ -13,14 +13,14 @@ use Rattle.numbers.proofs.Tests.{by-test, holds, no-true, and-l, and-r,
 
 -- ---- a call that is taken fails every test, and one that meets a test is refused
 
--- no test has the number n
-abbrev pub without : ℕ → List (ℕ × Bool) → Bool
-without n [] = true
-without n (t ∷ ts) = not (eqb (t .0) n) && without n ts
+-- each number satisfies p
+abbrev pub eachNumber : (ℕ → Bool) → List (ℕ × Bool) → Bool
+eachNumber p [] = true
+eachNumber p (t ∷ ts) = p (t .0) && eachNumber p ts
 
 -- no number is 0
 abbrev pub numbered : List (ℕ × Bool) → Bool
-numbered ts = without 0 ts
+numbered ts = eachNumber (λ n. not (eqb n 0)) ts
 
 -- the test with the number n
 abbrev pub testOf : ℕ → List (ℕ × Bool) → Bool
@@ -69,13 +69,13 @@ pub first-skips : (ts us : List (ℕ × Bool)) (n : ℕ) → firstOf (ts ++ ((n,
 first-skips [] us n = refl
 first-skips (t ∷ ts) us n = ap (cond (t .1) (t .0)) (first-skips ts us n)
 
--- a number that no test has is not given
-pub first-without : (n : ℕ) (ts : List (ℕ × Bool)) → without n ts ≡ true → eqb 0 n ≡ false → eqb (firstOf ts) n ≡ false
-first-without n [] k z = z
-first-without n (t ∷ ts) k z = go (t .1) (first-without n ts (and-r (not (eqb (t .0) n)) (without n ts) k) z)
+-- what each number satisfies, and 0, the number that is given satisfies
+pub first-each : (p : ℕ → Bool) (ts : List (ℕ × Bool)) → eachNumber p ts ≡ true → p 0 ≡ true → p (firstOf ts) ≡ true
+first-each p [] k z = z
+first-each p (t ∷ ts) k z = go (t .1) (first-each p ts (and-r (p (t .0)) (eachNumber p ts) k) z)
   where
-    go : (b : Bool) → eqb (firstOf ts) n ≡ false → eqb (cond b (t .0) (firstOf ts)) n ≡ false
-    go true g = not-true (eqb (t .0) n) (and-l (not (eqb (t .0) n)) (without n ts) k)
+    go : (b : Bool) → p (firstOf ts) ≡ true → p (cond b (t .0) (firstOf ts)) ≡ true
+    go true g = and-l (p (t .0)) (eachNumber p ts) k
     go false g = g
 
 -- ---- the lowest number
