@@ -11,7 +11,7 @@ use lib.Signed.{_≤ℤ_, leZ}
 use Rattle.numbers.proofs.Tests.{holds, fails, and-l, and-r, or-l, or-r, not-true, not-false}
 use Rattle.numbers.proofs.Parts.{ints, parts-add, parts-abs, test-le}
 use Rattle.numbers.proofs.Sizes.{abs-add}
-use Rattle.numbers.proofs.Tables.{all-fail}
+use Rattle.numbers.proofs.Tables.{failed}
 use Rattle.numbers.proofs.Chain.{plain, literal, add, sub, mul}
 use Rattle.adjust.specs.declared.Section.{Section}
 use Rattle.adjust.specs.declared.Sections.{Sections}
@@ -83,18 +83,18 @@ unfolding adjustRefusal
 adjustable start end s places e =
     let ss = sectionsOf s in
     let n = from-length s 0 (s .count) in
-    let f = all-fail (adjustTests start end ss places) refl e in
-    let count = not-false (ltb 0 (length ss) && leb (length ss) 64) (f .0) in
-    let heights = not-false (heightInRange start && heightInRange end) (f .1 .1 .1 .0) in (
+    let test = failed (adjustTests start end ss places) refl e in
+    let count = not-false (ltb 0 (length ss) && leb (length ss) 64) (test 11) in
+    let heights = not-false (heightInRange start && heightInRange end) (test 5) in (
       record {
         some = omega (arith, n, ltb→lt 0 (length ss) (holds (and-l (ltb 0 (length ss)) (leb (length ss) 64) count)));
         fits =
             record {
               few = omega (arith, n, leb→le (length ss) 64 (holds (and-r (ltb 0 (length ss)) (leb (length ss) 64) count)));
-              legs = strict-legs ss (f .1 .1 .0);
+              legs = strict-legs ss (test 12);
             };
         start-size = in-range start (and-l (heightInRange start) (heightInRange end) heights);
         end-size = in-range end (and-r (heightInRange start) (heightInRange end) heights);
       },
-      omega (arith, n, nltb→le places (length ss) (fails (f .1 .0))),
+      omega (arith, n, nltb→le places (length ss) (fails (test 13))),
     )

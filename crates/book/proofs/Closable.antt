@@ -7,7 +7,6 @@ use Prim.Native.Nat.{ℕ}
 use lib.Dec.{eqb, eqb→eq}
 use lib.IntN.{ℤ}
 use Rattle.numbers.proofs.Tests.{by-test, or-r, not-false}
-use Rattle.numbers.proofs.Tables.{all-fail}
 use Rattle.adjust.specs.declared.Summary.{Summary}
 use Rattle.adjust.specs.Sections.{sectionsOf, heightInRange}
 use Rattle.adjust.specs.Frames.{figuresFit, adjustedOf, nothing, adjustedIfFit}
@@ -15,9 +14,9 @@ use Rattle.book.specs.declared.Book.{Book}
 use Rattle.book.specs.declared.CloseAnswer.the-variants.{Closed, NotClosed}
 use Rattle.book.specs.declared.CloseOutcome.{CloseOutcome}
 use Rattle.book.specs.Standing.{standingOf, isEmpty, isReturn}
-use Rattle.book.specs.Rules.{close-line, inputTests, stateTests, bookRefusal}
+use Rattle.book.specs.Rules.{close-line, bookRefusal}
 use Rattle.book.specs.Calls.{closingOf, closeNumber, closeValues, closeAnswerOf, closeOutcome, Closes}
-use Rattle.book.proofs.Parts.{taken-parts}
+use Rattle.book.proofs.Tables.{book-fails}
 use Rattle.book.proofs.Unbroken.{Unbroken, unbroken, some-long}
 
 close-number : (n : ℕ) (s : Summary) → closeNumber (closeAnswerOf n s) ≡ n
@@ -39,17 +38,15 @@ closes b number end e =
 
 module _ (b : Book) (number end : ℤ) (taken : bookRefusal (standingOf b) (close-line number end) ≡ 0) where
   whole : Unbroken b
-  whole = unbroken b (taken-parts (standingOf b) (close-line number end) taken .1)
+  whole = unbroken b (book-fails (standingOf b) (close-line number end) taken 20)
 
   fit : figuresFit (b .line .start .height) end (sectionsOf (b .sections)) ≡ true
   unfolding figuresFit
   fit =
-      let v = standingOf b in
-      let parts = taken-parts v (close-line number end) taken in
+      let test = book-fails (standingOf b) (close-line number end) taken in
       let empty = isEmpty (sectionsOf (b .sections)) in
-      let state = all-fail (stateTests v (close-line number end)) refl (parts .2) in
-      let some = or-r (not (eqb (b .line .present .count) 0) || isReturn (b .line .waiting)) empty (state .1 .0) in
-      let known = not-false (heightInRange end) (all-fail (inputTests (close-line number end)) refl (parts .0) .1 .0) in
+      let some = or-r (not (eqb (b .line .present .count) 0) || isReturn (b .line .waiting)) empty (test 33) in
+      let known = not-false (heightInRange end) (test 5) in
       λ i. some-long (sectionsOf (b .sections)) some i && not (whole .fit i) && whole .start i && known i
 
   pub formulas : adjustedIfFit (b .line .order) (b .line .start) end (sectionsOf (b .sections)) ≡ adjustedOf (closingOf b end)

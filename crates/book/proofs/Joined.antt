@@ -27,7 +27,7 @@ use Rattle.book.specs.Standing.{Standing, standingOf, bookWith, noRun}
 use Rattle.book.specs.Rules.{Call, open-line, station, end-run, close-line, withRuns, withSection, bookRefusal, taken}
 use Rattle.book.specs.Calls.{bookAfter, outcome, Answers}
 use Rattle.book.specs.Changes.{noSection, movedTo, changeTo, changed, Leaves, Makes}
-use Rattle.book.proofs.Parts.{taken-parts}
+use Rattle.book.proofs.Tables.{not-broken}
 use Rattle.book.proofs.Unbroken.{unbroken}
 
 -- a change of the line alone leads to what has the same sections
@@ -127,7 +127,7 @@ module _ (b : Book) {c d : Call} (same : d ≡ c) where
         → sectionsOf (b .sections) ≡ taken (standingOf b) d .sections → Makes b c x
     makes-moved {x} w z m l ss =
         let v = standingOf b in
-        makes-taken x z (leaves-moved b (taken v d) w (unbroken b (taken-parts v d (sym e ∙ z) .1) .few) m l ss)
+        makes-taken x z (leaves-moved b (taken v d) w (unbroken b (not-broken v d (sym e ∙ z)) .few) m l ss)
 
   pub makes-outcome : (x : Change) → Makes b d x → {r : Outcome} → r ≡ record { answer = answerOf (x .number); book = changed b x } → Answers b c r
   unfolding outcome

@@ -121,6 +121,10 @@ refusal v c = firstOf (inputTests c ++ stateTests v c)
 unfoldable pub bookRefusal : Standing → Call → ℕ
 bookRefusal v c = firstOf (inputTests c ++ ((20, broken v) ∷ stateTests v c))
 
+-- the order of the numbers: as they stand, but 31 before 30
+abbrev pub before30 : ℕ → ℕ
+before30 n = cond (eqb n 31) 30 (cond (eqb n 30) 31 n)
+
 -- ---- what a call that is taken leaves
 
 -- the line with other runs

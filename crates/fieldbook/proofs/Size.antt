@@ -21,7 +21,7 @@ use Rattle.book.specs.declared.Stage.the-variants.{Fresh, Open, Closed}
 use Rattle.book.specs.Standing.{isOpen}
 use Rattle.book.specs.Rules.{Call, open-line, station, end-run, drop-run, drop-section, close-line}
 use Rattle.ledger.specs.Plain.{Reading, Awaited, refusal, taken, runEnded, standing}
-use Rattle.ledger.proofs.Lowest.{fails}
+use Rattle.book.proofs.Tables.{fails}
 use Rattle.ledger.proofs.Follows.{recast}
 use Rattle.textbook.specs.Text.{Refusal, callOf, lineRefusal, lineNext, lineRefusals, refusalsFrom, readingAfter}
 
@@ -60,11 +60,11 @@ taken-least : (r : Reading) (c : Call) → refusal r c ≡ 0 → least (taken r 
 taken-least r (open-line order instrument number height) e = omega arith
 taken-least r (station kb kf readings) e = omega (arith, length-append (r .present) (stationOf kb kf readings ∷ []))
 taken-least r (end-run number) e =
-    ended r (r .order) (r .waiting) number (two-at-least (length (r .present)) (fails (standing r) (end-run number) e .1 .1 .0))
+    ended r (r .order) (r .waiting) number (two-at-least (length (r .present)) (fails (standing r) (end-run number) e 29))
 taken-least r drop-run e = omega arith
 taken-least r drop-section e = omega arith
 taken-least r (close-line number end) e =
-    let opened = not-false (isOpen (r .stage)) (fails (standing r) (close-line number end) e .1 .1 .0) in
+    let opened = not-false (isOpen (r .stage)) (fails (standing r) (close-line number end) e 21) in
     omega (arith, open-lines (r .stage) opened)
 
 -- ---- a line is refused, or adds one at most

@@ -1,6 +1,6 @@
 -- Every line of a report has 84 bytes: no number is too large for its field.
 use mathlib.Core.Path.{_≡_, refl, sym, subst}
-use mathlib.Core.Bool.{Bool, true, false, cond, _&&_}
+use mathlib.Core.Bool.{Bool, true, false, cond}
 use mathlib.Core.List.{List, [], _∷_, _++_, map}
 use Prim.Native.Nat.{ℕ, suc, _+_, _*_, _≤_}
 use native.Mathlib.Omega.{arith}
@@ -8,8 +8,8 @@ use borrow.Author.Tests.{eq-eqb, leb-true}
 use lib.Dec.{leb, eqb}
 use lib.ListN.{length, take, drop, length-map}
 use lib.IntN.{pos}
-use Rattle.numbers.specs.Tables.{firstOf}
-use Rattle.numbers.proofs.Tests.{by-test, is-true, and-l, and-r}
+use Rattle.numbers.proofs.Tables.{first-each}
+use Rattle.numbers.proofs.Tests.{by-test, is-true}
 use Rattle.numbers.proofs.All.{All, all-head, all-tail, all-cons, all-append}
 use Rattle.ledger.proofs.Whole.{calls-kept}
 use Rattle.adjust.specs.declared.Point.{Point}
@@ -23,9 +23,10 @@ use Rattle.columns.specs.Lines.{lineEnd, heading, title}
 use Rattle.columns.specs.Records.{letters, tags, tagAmong, fieldCount, allNumbers, numbersIn, refusedLine, recordLine, numbersLine, recordIn, lineOfKind, lineIn}
 use Rattle.columns.specs.Texts.{lines}
 use Rattle.columns.proofs.Lines.{length-line, length-title}
-use Rattle.book.specs.Standing.{Standing, isClosed}
-use Rattle.book.specs.Rules.{Call, open-line, station, end-run, drop-run, drop-section, close-line, inputTests, stateTests}
-use Rattle.ledger.specs.Plain.{Reading, freshReading, after, standing, sectionOf, figuresOf}
+use Rattle.book.specs.Standing.{isClosed}
+use Rattle.book.specs.Rules.{Call}
+use Rattle.book.proofs.Tables.{tests, tables}
+use Rattle.ledger.specs.Plain.{Reading, freshReading, after, refusal, standing, sectionOf, figuresOf}
 use Rattle.textbook.specs.Text.{Refusal, callOf, lineRefusal, lineNext, lineRefusals, readingAfter, callsOf, refusalsFrom}
 use Rattle.fieldbook.specs.Report.{refLine, closedNumbers, closedLine, pointLine, openLine, closingLines, resultLines, reportOf, withoutHeading, reportLines}
 use Rattle.fieldbook.specs.Fits.{pointFits, ReportWhole}
@@ -34,31 +35,12 @@ use Rattle.fieldbook.proofs.Widths.{figures-fit}
 use Rattle.fieldbook.proofs.Written.{refusal-fits, open-long, point-long}
 use Rattle.fieldbook.proofs.Reports.{closed-stage, few-lines}
 
--- ---- refusal numbers are at most 36
-
--- no test has a larger number
-abbrev upTo36 : List (ℕ × Bool) → Bool
-upTo36 [] = true
-upTo36 (t ∷ ts) = leb (t .0) 36 && upTo36 ts
-
-first-small : (ts : List (ℕ × Bool)) → upTo36 ts ≡ true → firstOf ts ≤ 36
-first-small [] e = omega arith
-first-small (t ∷ ts) e =
-    by-test (t .1) (λ b. cond b (t .0) (firstOf ts) ≤ 36) (λ b. leb-true (t .0) 36 (and-l (leb (t .0) 36) (upTo36 ts) e))
-    (λ b. first-small ts (and-r (leb (t .0) 36) (upTo36 ts) e))
-
-tests-small : (v : Standing) (c : Call) → upTo36 (inputTests c ++ stateTests v c) ≡ true
-tests-small v (open-line order instrument number height) = refl
-tests-small v (station kb kf readings) = refl
-tests-small v (end-run number) = refl
-tests-small v drop-run = refl
-tests-small v drop-section = refl
-tests-small v (close-line number end) = refl
+-- ---- refusal numbers have two digits at most
 
 -- a line is refused with 1 or 2
 abbrev SmallKind : Kind → Type 0
 SmallKind (Record t) = Unit {0}
-SmallKind (Refused n) = n ≤ 36
+SmallKind (Refused n) = n ≤ 99
 
 abbrev Small : Line → Type 0
 Small l = SmallKind (l .kind)
@@ -82,11 +64,11 @@ line-small l = go (tagAmong tags (take 3 l)) (no-tag tags (take 3 l))
         (λ b. numbers-small t (fieldCount t) (drop 3 l)) (λ b. omega arith)
     go (Refused n) h = h
 
-refusal-small : (r : Reading) (l : List ℕ) → lineRefusal r (lineIn l) ≤ 36
+refusal-small : (r : Reading) (l : List ℕ) → lineRefusal r (lineIn l) ≤ 99
 refusal-small r l = go (lineIn l .kind) (line-small l)
   where
-    go : (k : Kind) → SmallKind k → lineRefusal r (record { kind = k; values = lineIn l .values }) ≤ 36
-    go (Record t) h = first-small (inputTests (callOf t (lineIn l .values)) ++ stateTests (standing r) (callOf t (lineIn l .values))) (tests-small (standing r) (callOf t (lineIn l .values)))
+    go : (k : Kind) → SmallKind k → lineRefusal r (record { kind = k; values = lineIn l .values }) ≤ 99
+    go (Record t) h = let c : Call = callOf t (lineIn l .values) in leb-true (refusal r c) 99 (first-each (λ n. leb n 99) (tests (standing r) c) (tables (standing r) c .two-digits) refl)
     go (Refused n) h = h
 
 -- ---- whole lines
@@ -100,7 +82,7 @@ AllWhole ls = All whole ls
 is-whole : (l : List ℕ) → length l ≡ 84 → whole l ≡ true
 is-whole l e = eq-eqb (length l) 84 e
 
-refusal-whole : (k n : ℕ) → k ≤ 777 → n ≤ 36 → AllWhole (map refLine (cond (eqb n 0) [] (record { line = k; number = n } ∷ [])))
+refusal-whole : (k n : ℕ) → k ≤ 777 → n ≤ 99 → AllWhole (map refLine (cond (eqb n 0) [] (record { line = k; number = n } ∷ [])))
 refusal-whole k n h g =
     by-test (eqb n 0) (λ b. AllWhole (map refLine (cond b [] (record { line = k; number = n } ∷ [])))) (λ b. refl)
     (λ b. all-cons whole (refLine (record { line = k; number = n })) [] (is-whole (refLine (record { line = k; number = n }))

@@ -9,7 +9,6 @@ use lib.ListN.{length}
 use lib.IntN.{ℤ, pos, natAbs, _+ℤ_, _*ℤ_}
 use lib.Signed.{_≤ℤ_, leZ}
 use Rattle.numbers.proofs.Tests.{not-false}
-use Rattle.numbers.proofs.Tables.{AllFail}
 use Rattle.numbers.proofs.All.{All, all-cons, all-tail}
 use Rattle.numbers.proofs.Parts.{ints, parts-add, parts-abs, test-le}
 use Rattle.numbers.proofs.Sizes.{abs-add, abs-mul}
@@ -27,9 +26,9 @@ use Rattle.columns.specs.Lines.{widthOf, allFit, columnsOf, lineFits, isWide}
 use Rattle.columns.proofs.Fields.{fits-within}
 use Rattle.columns.proofs.Lines.{columns-range, fits-room, height-fits}
 use Rattle.book.specs.Standing.{Standing, isShut}
-use Rattle.book.specs.Rules.{close-line, lengthLimit, closureWithin, lineTests, refusal, taken}
+use Rattle.book.specs.Rules.{close-line, lengthLimit, closureWithin, refusal, taken}
 use Rattle.ledger.specs.Plain.{Reading, freshReading, after, figuresOf, standing}
-use Rattle.ledger.proofs.Lowest.{fails}
+use Rattle.book.proofs.Tables.{fails}
 use Rattle.ledger.proofs.Runs.{narrow}
 use Rattle.ledger.proofs.Whole.{Kept, calls-kept}
 use Rattle.ledger.proofs.Every.{every-list}
@@ -125,16 +124,13 @@ module _ (v : Standing) (number end : ℤ) (e : refusal v (close-line number end
   some : pos 1 ≤ℤ l
   some = omega (ints, long ss fit, i .closed refl)
 
-  from-35 : AllFail (lineTests v end)
-  from-35 = fails v (close-line number end) e .1 .1 .1 .1 .1
-
   short : l ≤ℤ pos 4000000
   short =
-      let limit : l ≤ℤ lengthLimit order (isShut v) = test-le (not-false (leZ l (lengthLimit order (isShut v))) (from-35 .0)) in
+      let limit : l ≤ℤ lengthLimit order (isShut v) = test-le (not-false (leZ l (lengthLimit order (isShut v))) (fails v (close-line number end) e 35)) in
       omega (ints, length-small order (isShut v))
 
   small : natAbs w ≤ 20000
-  small = closure-small order w l (not-false (closureWithin order w l) (from-35 .1 .0)) short
+  small = closure-small order w l (not-false (closureWithin order w l) (fails v (close-line number end) e 36)) short
 
   begins : natAbs start ≤ 8999999
   begins = in-range start (i .start)

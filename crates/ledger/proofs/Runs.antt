@@ -13,6 +13,7 @@ use lib.Signed.{_≤ℤ_, _<ℤ_, ltZ}
 use Rattle.numbers.specs.Whole.{within}
 use Rattle.numbers.proofs.Tests.{and-l, and-r, not-false}
 use Rattle.numbers.proofs.Ring.{ringℤ}
+use Rattle.numbers.proofs.Tables.{first-none}
 use Rattle.numbers.proofs.Parts.{ints, parts-add, parts-sub, parts-times, parts-abs, test-lt}
 use Rattle.numbers.proofs.Sizes.{abs-add, abs-sub, abs-mul, square-abs, within-size, within-true, between-true}
 use Rattle.roots.specs.Limit.{isWithin}
@@ -23,14 +24,14 @@ use Rattle.station.specs.declared.Instrument.{Instrument}
 use Rattle.station.specs.declared.Instrument.the-variants.{Ds3, Ds1}
 use Rattle.station.specs.declared.Limits.{Limits}
 use Rattle.station.specs.declared.Figures.{Figures}
-use Rattle.station.specs.Station.{Staff, Station, stationOf, figuresOf, limitsOf, sight, faceDifference, twiceHeight, threadsInOrder, readingRefusal}
+use Rattle.station.specs.Station.{Staff, Station, stationOf, figuresOf, limitsOf, sight, faceDifference, twiceHeight, threadsInOrder, readingTests, readingRefusal}
 use Rattle.station.proofs.Read.{read}
 use Rattle.adjust.specs.declared.Section.{Section}
 use Rattle.adjust.specs.Sections.{sectionFits}
 use Rattle.book.specs.declared.Run.{Run}
 use Rattle.book.specs.Standing.{Standing, noRun, withStation, oneWay, bothWays, runFits}
-use Rattle.book.specs.Rules.{station, discrepancyWithin, refusal}
-use Rattle.ledger.proofs.Lowest.{fails}
+use Rattle.book.specs.Rules.{station, stateTests, discrepancyWithin, refusal}
+use Rattle.book.proofs.Tables.{fails}
 
 pub record Sized (u : Run) : Type 0 where
   pub count : u .count ≤ 200
@@ -112,18 +113,16 @@ pub station-sized : (v : Standing) (kb kf : ℤ) (readings : List (List ℤ)) �
     → Sized (v .line .present) → Sized (withStation (v .line .present) (figuresOf (stationOf kb kf readings)) kf)
 unfolding readingRefusal
 station-sized v kb kf readings e h =
-    let from-6 = fails v (station kb kf readings) e in
-    let from-21 = from-6 .1 .1 .1 in
-    let from-24 = from-21 .1 .1 .1 in
-    let r = read kb kf readings (rw (from-6 .0, from-6 .1 .0, from-6 .1 .1 .0)) in
+    let test = fails v (station kb kf readings) e in
+    let r = read kb kf readings (first-none (readingTests x) (stateTests v (station kb kf readings)) e) in
     let back = within (f .back .sight) (l .sight) in
     let fore = within (f .fore .sight) (l .sight) in
-    let sights = not-false (back && fore) (from-24 .0) in
+    let sights = not-false (back && fore) (test 24) in
     let face-back = within (f .back .face) (l .face) in
     let face-fore = within (f .fore .face) (l .face) in
-    let faces = not-false (face-back && face-fore) (from-24 .1 .1 .1 .0) in
-    let accumulated = within-size (u .difference +ℤ f .difference) (l .accumulated) (not-false _ (from-24 .1 .1 .0)) in
-    figures-sized u f kf h (leb-false 200 (u .count) (from-21 .1 .0))
+    let faces = not-false (face-back && face-fore) (test 27) in
+    let accumulated = within-size (u .difference +ℤ f .difference) (l .accumulated) (not-false _ (test 26)) in
+    figures-sized u f kf h (leb-false 200 (u .count) (test 22))
     (height-size (x .back) (x .fore) (l .face) (r .back .black) (r .fore .black) (and-l face-back face-fore faces) (and-r face-back face-fore faces)
     (face-limit order instrument))
     (sight-size (x .back) (l .sight) (r .back-order) (and-l back fore sights) (sight-limit order instrument))

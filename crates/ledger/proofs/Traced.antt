@@ -1,7 +1,7 @@
 -- Whatever meets the contracts of the calls answers, gives and leaves what the plain reading does, so what is proved of every list holds of the code.
 use mathlib.Core.Path.{_≡_, refl, sym, ap, subst, _∙_}
 use mathlib.Core.Logic.{_⊎_, inl, inr, ⊎-elim}
-use mathlib.Core.Bool.{Bool, true, false, cond, _||_}
+use mathlib.Core.Bool.{Bool, true, false, not, cond, _||_}
 use mathlib.Core.List.{List, [], _∷_, _++_, map}
 use Prim.Native.Nat.{ℕ, zero, suc, _+_, _≤_}
 use native.Mathlib.Omega.{arith}
@@ -9,8 +9,8 @@ use lib.Dec.{eqb, eqb→eq}
 use lib.ListN.{length, take}
 use lib.IntN.{ℤ, pos, _*ℤ_}
 use Rattle.numbers.specs.Whole.{filled, anyOf}
-use Rattle.numbers.proofs.Tests.{by-test, holds, no-true}
-use Rattle.numbers.proofs.Tables.{without, first-without, zero-cond}
+use Rattle.numbers.proofs.Tests.{by-test, holds, no-true, not-true}
+use Rattle.numbers.proofs.Tables.{first-each, zero-cond}
 use Rattle.numbers.proofs.Filled.{filled-take}
 use Rattle.adjust.specs.declared.Section.{Section}
 use Rattle.adjust.specs.declared.Point.{Point}
@@ -27,8 +27,9 @@ use Rattle.book.specs.declared.Outcome.{Outcome}
 use Rattle.book.specs.declared.CloseAnswer.the-variants.{Closed, NotClosed}
 use Rattle.book.specs.declared.CloseOutcome.{CloseOutcome}
 use Rattle.book.specs.Standing.{Standing, standingOf, bookWith}
-use Rattle.book.specs.Rules.{Call, open-line, station, end-run, drop-run, drop-section, close-line, inputTests, stateTests, bookRefusal}
+use Rattle.book.specs.Rules.{Call, open-line, station, end-run, drop-run, drop-section, close-line, bookRefusal}
 use Rattle.book.specs.Rules as Rules
+use Rattle.book.proofs.Tables.{tests, tables}
 use Rattle.book.specs.Changes.{Makes}
 use Rattle.book.specs.Calls.{freshBook, bookAfter, outcome, Answers, closingOf, closeNumber, closeValues, closeOutcome, gaveOf, figuresOf}
 use Rattle.book.proofs.Joined.{answers-as}
@@ -214,17 +215,9 @@ traced r k p (made-closed {number = m} {end = end} x a h g f t) =
 
 -- ---- 20 is not given
 
-no-20 : (v : Standing) (c : Call) → without 20 (inputTests c ++ stateTests v c) ≡ true
-no-20 v (open-line order instrument number height) = refl
-no-20 v (station kb kf readings) = refl
-no-20 v (end-run number) = refl
-no-20 v drop-run = refl
-no-20 v drop-section = refl
-no-20 v (close-line number end) = refl
-
 never-20 : (r : Reading) (cs : List Call) → anyOf (λ n. eqb n 20) (refusals r cs) ≡ false
 never-20 r [] = refl
-never-20 r (c ∷ cs) = λ i. first-without 20 (inputTests c ++ stateTests (standing r) c) (no-20 (standing r) c) refl i || never-20 (next r c) cs i
+never-20 r (c ∷ cs) = λ i. not-true (eqb (refusal r c) 20) (first-each (λ n. not (eqb n 20)) (tests (standing r) c) (tables (standing r) c .no-twenty) refl) i || never-20 (next r c) cs i
 
 -- ---- the claim
 

@@ -28,10 +28,10 @@ use Rattle.book.specs.declared.Waiting.{Waiting}
 use Rattle.book.specs.declared.Waiting.the-variants.{Nothing, Outward}
 use Rattle.book.specs.Standing.{Standing, isFresh, isOpen, isShut, isEmpty, isReturn, outwardOrReturn, noRun, oneWay, bothWays, twoWay, waitingBroken, misplaced, broken}
 use Rattle.book.specs.Rules.{Call, open-line, station, end-run, drop-run, drop-section, close-line, inputTests, stateTests, refusal, bookRefusal, numberInRange, discrepancyWithin, withRuns, withSection, runEnded, taken}
+use Rattle.book.proofs.Tables.{fails}
 use Rattle.ledger.specs.Plain as Plain
 use Rattle.ledger.specs.Plain.{Reading, freshReading, after, next, standing}
 use Rattle.ledger.proofs.Follows.{follows}
-use Rattle.ledger.proofs.Lowest.{fails}
 use Rattle.ledger.proofs.Runs.{Sized, no-run-sized, station-sized, run-fits, one-way-fits, both-ways-fits, narrow, one-way-narrow, both-ways-narrow}
 
 -- ---- stages
@@ -134,15 +134,15 @@ number-size n e =
 -- by the tests 4, 21, 29, 31 and 32
 run-kept : (v : Standing) (number : ℤ) → Kept v → refusal v (end-run number) ≡ 0 → Kept (runEnded v number)
 run-kept v number i e =
-    let from-29 = fails v (end-run number) e .1 .1 in
-    let some : 0 < u .count = omega (arith, eqb-false (u .count) 0 (or-l (eqb (u .count) 0) (eqb (u .count % 2) 1) (from-29 .0))) in
-    go (v .line .waiting) (twoWay (v .line .order)) refl some (i .waiting) (from-29 .1 .0) (from-29 .1 .1 .1 .0)
+    let test = fails v (end-run number) e in
+    let some : 0 < u .count = omega (arith, eqb-false (u .count) 0 (or-l (eqb (u .count) 0) (eqb (u .count % 2) 1) (test 29))) in
+    go (v .line .waiting) (twoWay (v .line .order)) refl some (i .waiting) (test 31) (test 32)
   where
     running : isOpen (v .line .stage) ≡ true
-    running = not-false (isOpen (v .line .stage)) (or-l (not (isOpen (v .line .stage))) (isShut v) (fails v (end-run number) e .1 .0))
+    running = not-false (isOpen (v .line .stage)) (or-l (not (isOpen (v .line .stage))) (isShut v) (fails v (end-run number) e 21))
 
     small : natAbs number ≤ 9999
-    small = number-size number (not-false (numberInRange number) (fails v (end-run number) e .0))
+    small = number-size number (not-false (numberInRange number) (fails v (end-run number) e 4))
 
     u : Run
     u = v .line .present
@@ -172,43 +172,42 @@ not-empty (x ∷ xs) e = omega arith
 running-station : (v : Standing) (kb kf : ℤ) (readings : List (List ℤ)) → refusal v (station kb kf readings) ≡ 0 → isOpen (v .line .stage) ≡ true
 running-station v kb kf readings e =
     not-false (isOpen (v .line .stage))
-    (or-l (not (isOpen (v .line .stage))) (isShut v) (fails v (station kb kf readings) e .1 .1 .1 .0))
+    (or-l (not (isOpen (v .line .stage))) (isShut v) (fails v (station kb kf readings) e 21))
 
 taken-kept : (v : Standing) (c : Call) → Kept v → refusal v c ≡ 0 → Kept (taken v c)
 -- by the tests 4 and 5
 taken-kept v (open-line order instrument number height) i e =
-    let from-3 = fails v (open-line order instrument number height) e in
+    let test = fails v (open-line order instrument number height) e in
     record {
       few = omega arith;
       fit = refl;
       present = no-run-sized;
       waiting = tt;
-      start = not-false (heightInRange height) (from-3 .1 .1 .0);
+      start = not-false (heightInRange height) (test 5);
       end = refl;
       closed = λ c. absurd (open-not-closed c);
       placed = refl;
-      number = number-size number (not-false (numberInRange number) (from-3 .1 .0));
+      number = number-size number (not-false (numberInRange number) (test 4));
       narrow-sections = refl;
     }
 taken-kept v (station kb kf readings) i e =
     runs-kept v (v .line .waiting) _ i (running-station v kb kf readings e) (i .waiting) (station-sized v kb kf readings e (i .present)) (no-stray v i)
 taken-kept v (end-run number) i e = run-kept v number i e
 taken-kept v drop-run i e =
-    runs-kept v (v .line .waiting) noRun i (not-false (isOpen (v .line .stage)) (fails v drop-run e .0)) (i .waiting) no-run-sized (no-stray v i)
-taken-kept v drop-section i e = runs-kept v Nothing noRun i (not-false (isOpen (v .line .stage)) (fails v drop-section e .0)) tt no-run-sized refl
+    runs-kept v (v .line .waiting) noRun i (not-false (isOpen (v .line .stage)) (fails v drop-run e 21)) (i .waiting) no-run-sized (no-stray v i)
+taken-kept v drop-section i e = runs-kept v Nothing noRun i (not-false (isOpen (v .line .stage)) (fails v drop-section e 21)) tt no-run-sized refl
 -- by the tests 5 and 33
 taken-kept v (close-line number end) i e =
-    let from-4 = fails v (close-line number end) e in
-    let from-33 = from-4 .1 .1 .1 in
+    let test = fails v (close-line number end) e in
     record {
       few = i .few;
       fit = i .fit;
       present = i .present;
       waiting = i .waiting;
       start = i .start;
-      end = not-false (heightInRange end) (from-4 .1 .0);
+      end = not-false (heightInRange end) (test 5);
       closed =
-          λ c. not-empty (v .sections) (or-r (not (eqb (v .line .present .count) 0) || isReturn (v .line .waiting)) (isEmpty (v .sections)) (from-33 .0));
+          λ c. not-empty (v .sections) (or-r (not (eqb (v .line .present .count) 0) || isReturn (v .line .waiting)) (isEmpty (v .sections)) (test 33));
       placed = no-stray v i;
       number = i .number;
       narrow-sections = i .narrow-sections;
@@ -236,8 +235,7 @@ run-longer v number (Outward outward run) t = rw (length-append (v .sections) (b
 
 pub no-shorter : (v : Standing) (c : Call) → Kept v → refusal v c ≡ 0 → length (v .sections) ≤ length (taken v c .sections)
 no-shorter v (open-line order instrument number height) i e =
-    let from-3 = fails v (open-line order instrument number height) e in
-    omega (arith, fresh-none v i (not-false (isFresh (v .line .stage)) (from-3 .1 .1 .1 .0)))
+    omega (arith, fresh-none v i (not-false (isFresh (v .line .stage)) (fails v (open-line order instrument number height) e 21)))
 no-shorter v (station kb kf readings) i e = le-refl (length (v .sections))
 no-shorter v (end-run number) i e = run-longer v number (v .line .waiting) (twoWay (v .line .order))
 no-shorter v drop-run i e = le-refl (length (v .sections))

@@ -3,7 +3,6 @@
 use mathlib.Core.Path.{_≡_}
 use mathlib.Core.Bool.{cond}
 use mathlib.Core.List.{List, [], _∷_, _++_}
-use Prim.Native.Nat.{ℕ}
 use mathlib.Core.Option.{none}
 use lib.Dec.{eqb}
 use lib.IntN.{ℤ, pos, negℤ}
@@ -14,7 +13,7 @@ use Rattle.adjust.specs.Line.{frameOf, Closing, closing}
 use Rattle.adjust.specs.Claims.{Near, corrections, lastHeight}
 use Rattle.book.specs.declared.Stage.the-variants.{Open, Closed}
 use Rattle.book.specs.Standing.{Standing, broken}
-use Rattle.book.specs.Rules.{Call, drop-run, drop-section, close-line, inputTests, stateTests, bookRefusal}
+use Rattle.book.specs.Rules.{Call, drop-run, drop-section, close-line, inputTests, stateTests, bookRefusal, before30}
 use Rattle.ledger.specs.Plain.{Reading, freshReading, after, next, taken, refusal, standing, withLists, closings}
 
 -- ---- a closing
@@ -55,10 +54,6 @@ abbrev pub EveryList : Type 0
 EveryList = (calls : List Call) → after freshReading calls .stage ≡ Closed → ClosedOnce calls (closings freshReading calls)
 
 -- ---- the number given
-
--- the numbers as they stand, but 31 before 30
-abbrev pub before30 : ℕ → ℕ
-before30 n = cond (eqb n 31) 30 (cond (eqb n 30) 31 n)
 
 -- a book answers the lowest number that applies
 abbrev pub LowestGiven : Type 0

@@ -9,31 +9,32 @@ use native.Mathlib.Omega.{arith}
 use borrow.Author.Tests.{eq-eqb, ne-eqb}
 use lib.Dec.{ltb, eqb, ltb→lt}
 use Rattle.numbers.specs.Tables.{firstOf, Applies, Lowest, none-applies, applies}
-use Rattle.numbers.proofs.Tests.{holds, no-true, and-l, and-r, not-true}
+use Rattle.numbers.proofs.Tests.{by-test, holds, no-true, and-l, and-r, not-true}
 
 -- ---- a call that is taken fails every test, and one that meets a test is refused
 
--- no test has the number n
-abbrev pub without : ℕ → List (ℕ × Bool) → Bool
-without n [] = true
-without n (t ∷ ts) = not (eqb (t .0) n) && without n ts
+-- each number satisfies p
+abbrev pub eachNumber : (ℕ → Bool) → List (ℕ × Bool) → Bool
+eachNumber p [] = true
+eachNumber p (t ∷ ts) = p (t .0) && eachNumber p ts
 
 -- no number is 0
 abbrev pub numbered : List (ℕ × Bool) → Bool
-numbered ts = without 0 ts
+numbered ts = eachNumber (λ n. not (eqb n 0)) ts
 
-abbrev pub AllFail : List (ℕ × Bool) → Type 0
-AllFail [] = Unit {0}
-AllFail (t ∷ ts) = (t .1 ≡ false) × AllFail ts
+-- the test with the number n
+abbrev pub testOf : ℕ → List (ℕ × Bool) → Bool
+testOf n [] = false
+testOf n (t ∷ ts) = cond (eqb (t .0) n) (t .1) (testOf n ts)
 
-pub all-fail : (ts : List (ℕ × Bool)) → numbered ts ≡ true → firstOf ts ≡ 0 → AllFail ts
-all-fail [] k e = tt
-all-fail (t ∷ ts) k e =
-    go (t .0) (t .1) (and-l (not (eqb (t .0) 0)) (numbered ts) k) (all-fail ts (and-r (not (eqb (t .0) 0)) (numbered ts) k)) e
+pub failed : (ts : List (ℕ × Bool)) → numbered ts ≡ true → firstOf ts ≡ 0 → (n : ℕ) → testOf n ts ≡ false
+failed [] k e n = refl
+failed (t ∷ ts) k e n = go (t .1) (and-l (not (eqb (t .0) 0)) (numbered ts) k) (λ f. failed ts (and-r (not (eqb (t .0) 0)) (numbered ts) k) f n) e
   where
-    go : (n : ℕ) (b : Bool) → not (eqb n 0) ≡ true → (firstOf ts ≡ 0 → AllFail ts) → cond b n (firstOf ts) ≡ 0 → (b ≡ false) × AllFail ts
-    go n true h g e = no-true (subst (λ (m : ℕ). not (eqb m 0) ≡ true) e h)
-    go n false h g e = (refl, g e)
+    go : (b : Bool) → not (eqb (t .0) 0) ≡ true → (firstOf ts ≡ 0 → testOf n ts ≡ false) → cond b (t .0) (firstOf ts) ≡ 0
+        → cond (eqb (t .0) n) b (testOf n ts) ≡ false
+    go true h g e = no-true (subst (λ (m : ℕ). not (eqb m 0) ≡ true) e h)
+    go false h g e = by-test (eqb (t .0) n) (λ s. cond s false (testOf n ts) ≡ false) (λ s. refl) (λ s. g e)
 
 -- whatever stands before a test that holds
 pub met : (ts : List (ℕ × Bool)) (n : ℕ) → numbered ts ≡ true → eqb n 0 ≡ false → eqb (firstOf (ts ++ ((n, true) ∷ []))) 0 ≡ false
@@ -54,18 +55,27 @@ first-append (t ∷ ts) us k = go (t .1) (first-append ts us (and-r (not (eqb (t
     go true g = sym (rw (not-true (eqb (t .0) 0) (and-l (not (eqb (t .0) 0)) (numbered ts) k)))
     go false g = g
 
+-- where a table gives no number, its first part gives none
+pub first-none : (ts us : List (ℕ × Bool)) → firstOf (ts ++ us) ≡ 0 → firstOf ts ≡ 0
+first-none [] us e = refl
+first-none (t ∷ ts) us e = go (t .1) (first-none ts us) e
+  where
+    go : (b : Bool) → (firstOf (ts ++ us) ≡ 0 → firstOf ts ≡ 0) → cond b (t .0) (firstOf (ts ++ us)) ≡ 0 → cond b (t .0) (firstOf ts) ≡ 0
+    go true g e = e
+    go false g e = g e
+
 -- a test that fails stands in a table for nothing
 pub first-skips : (ts us : List (ℕ × Bool)) (n : ℕ) → firstOf (ts ++ ((n, false) ∷ us)) ≡ firstOf (ts ++ us)
 first-skips [] us n = refl
 first-skips (t ∷ ts) us n = ap (cond (t .1) (t .0)) (first-skips ts us n)
 
--- a number that no test has is not given
-pub first-without : (n : ℕ) (ts : List (ℕ × Bool)) → without n ts ≡ true → eqb 0 n ≡ false → eqb (firstOf ts) n ≡ false
-first-without n [] k z = z
-first-without n (t ∷ ts) k z = go (t .1) (first-without n ts (and-r (not (eqb (t .0) n)) (without n ts) k) z)
+-- what each number satisfies, and 0, the number that is given satisfies
+pub first-each : (p : ℕ → Bool) (ts : List (ℕ × Bool)) → eachNumber p ts ≡ true → p 0 ≡ true → p (firstOf ts) ≡ true
+first-each p [] k z = z
+first-each p (t ∷ ts) k z = go (t .1) (first-each p ts (and-r (p (t .0)) (eachNumber p ts) k) z)
   where
-    go : (b : Bool) → eqb (firstOf ts) n ≡ false → eqb (cond b (t .0) (firstOf ts)) n ≡ false
-    go true g = not-true (eqb (t .0) n) (and-l (not (eqb (t .0) n)) (without n ts) k)
+    go : (b : Bool) → p (firstOf ts) ≡ true → p (cond b (t .0) (firstOf ts)) ≡ true
+    go true g = and-l (p (t .0)) (eachNumber p ts) k
     go false g = g
 
 -- ---- the lowest number

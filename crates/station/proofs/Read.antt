@@ -9,7 +9,7 @@ use Rattle.numbers.specs.Whole.{between, eqZ}
 use Rattle.numbers.proofs.Tests.{and-l, and-r, not-false}
 use Rattle.numbers.proofs.Equal.{eqZ-eq}
 use Rattle.numbers.proofs.Sizes.{between-size, abs-add, abs-sub}
-use Rattle.numbers.proofs.Tables.{all-fail}
+use Rattle.numbers.proofs.Tables.{failed}
 use Rattle.station.specs.Bounds.{SmallSighting, Small}
 use Rattle.station.specs.Station.{Staff, Station, stationOf, sight, sightingOf, figuresOf, readingsInRange, constantsPaired, threadsInOrder, readingTests, readingRefusal}
 
@@ -70,10 +70,10 @@ pub record Read (x : Station) : Type 0 where
 pub read : (kb kf : ℤ) (readings : List (List ℤ)) → readingRefusal kb kf readings ≡ 0 → Read (stationOf kb kf readings)
 unfolding readingRefusal
 read kb kf readings e =
-    let f = all-fail (readingTests x) refl e in
-    let range = not-false (readingsInRange (x .back) && readingsInRange (x .fore)) (f .0) in
-    let pair = not-false (constantsPaired x) (f .1 .0) in
-    let order = not-false (threadsInOrder (x .back) && threadsInOrder (x .fore)) (f .1 .1 .0) in
+    let fails = failed (readingTests x) refl e in
+    let range = not-false (readingsInRange (x .back) && readingsInRange (x .fore)) (fails 6) in
+    let pair = not-false (constantsPaired x) (fails 7) in
+    let order = not-false (threadsInOrder (x .back) && threadsInOrder (x .fore)) (fails 8) in
     let b = and-l (readingsInRange (x .back)) (readingsInRange (x .fore)) range in
     let r = and-r (readingsInRange (x .back)) (readingsInRange (x .fore)) range in
     record {

@@ -1,14 +1,13 @@
 -- `open` meets its contract, by the laws that join a refusal and an effect.
-use mathlib.Core.Path.{_≡_, refl, sym, _∙_}
+use mathlib.Core.Path.{_≡_, sym, _∙_}
 use mathlib.Core.List.{[]}
 use Rattle.numbers.proofs.Tests.{not-false}
-use Rattle.numbers.proofs.Tables.{all-fail}
 use Rattle.numbers.proofs.Machine.{stored}
 use Rattle.adjust.specs.Sections.{sectionsOf}
 use Rattle.adjust.proofs.Holding.{Whole}
 use Rattle.book.specs.Standing.{standingOf, isFresh}
-use Rattle.book.specs.Rules.{Call, open-line, stateTests}
-use Rattle.book.proofs.Parts.{taken-parts}
+use Rattle.book.specs.Rules.{Call, open-line}
+use Rattle.book.proofs.Tables.{book-fails}
 use Rattle.book.proofs.Unbroken.{fresh-none}
 use Rattle.book.proofs.Joined.{open-as, makes-refused, makes-moved}
 use borrow.Author.Needs.{needs}
@@ -47,8 +46,8 @@ no-section : (e : tie.Else1) → sectionsOf (e .before .before .args .b .section
 no-section e =
     let r = e .before in
     let b = r .before .args .b in
-    let parts = taken-parts (standingOf b) (asked (r .before)) (sym (r .open-refusal .ensures) ∙ e .if1 .left) in
-    fresh-none b (parts .1) (not-false (isFresh (b .line .stage)) (all-fail (stateTests (standingOf b) (asked (r .before))) refl (parts .2) .0))
+    let test = book-fails (standingOf b) (asked (r .before)) (sym (r .open-refusal .ensures) ∙ e .if1 .left) in
+    fresh-none b (test 20) (not-false (isFresh (b .line .stage)) (test 21))
 
 returns-2 : tie.Need-returns-2
 returns-2 c =

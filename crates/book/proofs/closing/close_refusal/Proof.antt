@@ -3,7 +3,7 @@ use mathlib.Core.Path.{_≡_, refl, sym, ap, _∙_}
 use Rattle.numbers.specs.Tables.{firstOf}
 use Rattle.numbers.proofs.Machine.{stored-id, stored-both}
 use Rattle.numbers.proofs.Tests.{not-false}
-use Rattle.numbers.proofs.Tables.{all-fail}
+use Rattle.numbers.proofs.Tables.{failed}
 use Rattle.adjust.specs.Sections.{heightInRange}
 use Rattle.adjust.proofs.Holding.{Whole}
 use Rattle.book.specs.Standing.{standingOf}
@@ -58,7 +58,7 @@ close-state-requires c κs =
     let s = e .before .before in
     let v = standingOf (s .args .t1) in (
       (saw-broken v (k .look .result) (seen k) (c .if2 .left), saw-shut v (k .look .result) (seen k) (c .if2 .left)),
-      ap heightInRange (stored-id (s .fits .end)) ∙ not-false (heightInRange (s .args .end)) (all-fail (inputTests (call s)) refl (taken e) .1 .0),
+      ap heightInRange (stored-id (s .fits .end)) ∙ not-false (heightInRange (s .args .end)) (failed (inputTests (call s)) refl (taken e) 5),
     )
 
 returns-3 : tie.Need-returns-3

@@ -1,5 +1,5 @@
 -- `run_ended` meets its contract, for an outward run and for a return.
-use mathlib.Core.Path.{_≡_, refl, sym, ap, subst, _∙_}
+use mathlib.Core.Path.{_≡_, sym, ap, subst, _∙_}
 use mathlib.Core.Bool.{Bool, false, not, cond, _&&_}
 use Prim.Native.Nat.{_<_}
 use native.Mathlib.Omega.{arith}
@@ -9,7 +9,6 @@ use lib.IntN.{ℤ}
 use mir.Syntax.{w64}
 use mir.Val.{SFits}
 use Rattle.numbers.proofs.Tests.{fails}
-use Rattle.numbers.proofs.Tables.{all-fail}
 use Rattle.numbers.proofs.Machine.{stored-id}
 use Rattle.adjust.specs.declared.Section.{Section}
 use Rattle.adjust.specs.Sections.{sectionsOf}
@@ -18,9 +17,9 @@ use Rattle.book.specs.declared.Waiting.{Waiting}
 use Rattle.book.specs.declared.Waiting.the-variants.{Outward}
 use Rattle.book.specs.declared.Book.{Book}
 use Rattle.book.specs.Standing.{Standing, standingOf, outwardOrReturn, isReturn, noRun, oneWay, bothWays, twoWay}
-use Rattle.book.specs.Rules.{end-run, stateTests, withRuns, withSection}
+use Rattle.book.specs.Rules.{end-run, withRuns, withSection}
 use Rattle.book.specs.Changes.{Leaves}
-use Rattle.book.proofs.Parts.{taken-parts}
+use Rattle.book.proofs.Tables.{book-fails}
 use Rattle.book.proofs.Unbroken.{SmallWaiting, Unbroken, unbroken}
 use borrow.Author.Needs.{needs}
 use Rattle.book.proofs.effects.run_ended.Statement.{statement}
@@ -30,14 +29,13 @@ enum-told : tie.Need-enum-told
 enum-told c = search needs
 
 whole : (s : tie.Start) → Unbroken (s .args .b)
-whole s = unbroken (s .args .b) (taken-parts (standingOf (s .args .b)) (end-run (s .args .number)) (s .pre) .1)
+whole s = unbroken (s .args .b) (book-fails (standingOf (s .args .b)) (end-run (s .args .number)) (s .pre) 20)
 
 -- an outward run that is taken finds room (test 31)
 room : (s : tie.Start) → isReturn (s .args .b .line .waiting) ≡ false → s .args .b .sections .count < 64
 room s e =
     let b = s .args .b in
-    let f = all-fail (stateTests (standingOf b) (end-run (s .args .number))) refl (taken-parts (standingOf b) (end-run (s .args .number)) (s .pre) .2) in
-    let full = ap (λ (t : Bool). not t && leb 64 (length (sectionsOf (b .sections)))) (sym e) ∙ f .1 .1 .0 in
+    let full = ap (λ (t : Bool). not t && leb 64 (length (sectionsOf (b .sections)))) (sym e) ∙ book-fails (standingOf b) (end-run (s .args .number)) (s .pre) 31 in
     omega (arith, from-length (b .sections) 0 (b .sections .count), nleb→lt 64 (length (sectionsOf (b .sections))) (fails full))
 
 outward-ended-requires : tie.Need-outward-ended-requires

@@ -1,13 +1,14 @@
 -- `with_taken_station` meets its contract: a station that is taken has the figures of its readings, and they are small.
 use mathlib.Core.Path.{_≡_, sym, ap, subst, _∙_}
-use Rattle.numbers.proofs.Tables.{zero-cond}
+use mathlib.Core.List.{_∷_}
+use Rattle.numbers.proofs.Tables.{first-none, zero-cond}
 use Rattle.numbers.proofs.Machine.{stored-id, stored-both}
 use Rattle.station.specs.Bounds.{Small}
 use Rattle.station.specs.Station.{stationOf, figuresOf, noFigures, readingRefusal, figuresIfRead}
 use Rattle.station.proofs.Read.{read, figures-small}
-use Rattle.book.specs.Standing.{standingOf, withStation}
-use Rattle.book.specs.Rules.{Call, station, withRuns}
-use Rattle.book.proofs.Parts.{taken-parts}
+use Rattle.book.specs.Standing.{standingOf, withStation, broken}
+use Rattle.book.specs.Rules.{Call, station, inputTests, stateTests, bookRefusal, withRuns}
+use Rattle.book.proofs.Tables.{book-fails}
 use Rattle.book.proofs.Unbroken.{unbroken}
 use borrow.Author.Needs.{needs}
 use Rattle.book.proofs.effects.with_taken_station.Statement.{statement}
@@ -20,8 +21,8 @@ abbrev call : tie.Start → Call
 call s = station (s .args .kb) (s .args .kf) (s .args .readings)
 
 not-refused : (s : tie.Start) → readingRefusal (s .args .kb) (s .args .kf) (s .args .readings) ≡ 0
-unfolding readingRefusal
-not-refused s = taken-parts (standingOf (s .args .b)) (call s) (s .pre) .0
+unfolding readingRefusal bookRefusal
+not-refused s = first-none (inputTests (call s)) ((20, broken (standingOf (s .args .b))) ∷ stateTests (standingOf (s .args .b)) (call s)) (s .pre)
 
 -- what the call gave are the figures
 figures-are : (c : tie.After-figures-of)
@@ -36,7 +37,7 @@ with-station-requires : tie.Need-with-station-requires
 with-station-requires c κs =
     let s = c .before .before .before in
     let b = s .args .b in (
-      unbroken b (taken-parts (standingOf b) (call s) (s .pre) .1) .present,
+      unbroken b (book-fails (standingOf b) (call s) (s .pre) 20) .present,
       subst Small (sym (figures-are c)) (figures-small (read (s .args .kb) (s .args .kf) (s .args .readings) (not-refused s))),
     )
 
