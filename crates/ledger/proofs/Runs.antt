@@ -25,7 +25,7 @@ use Rattle.station.specs.declared.Instrument.the-variants.{Ds3, Ds1}
 use Rattle.station.specs.declared.Limits.{Limits}
 use Rattle.station.specs.declared.Figures.{Figures}
 use Rattle.station.specs.Station.{Staff, Station, stationOf, figuresOf, limitsOf, sight, faceDifference, twiceHeight, threadsInOrder, readingTests, readingRefusal}
-use Rattle.station.proofs.Read.{read}
+use Rattle.station.proofs.Sizes.{read}
 use Rattle.adjust.specs.declared.Section.{Section}
 use Rattle.adjust.specs.Sections.{sectionFits}
 use Rattle.book.specs.declared.Run.{Run}

@@ -7,7 +7,7 @@ use Prim.Native.Nat.{ℕ, _≤_, _<_}
 use native.Mathlib.Nat.{le-refl}
 use native.Mathlib.Omega.{arith}
 use borrow.Author.Tests.{eq-eqb, ne-eqb}
-use lib.Dec.{ltb, eqb, ltb→lt}
+use lib.Dec.{ltb, eqb, ltb→lt, eqb→eq}
 use Rattle.numbers.specs.Tables.{firstOf, Applies, Lowest, none-applies, applies}
 use Rattle.numbers.proofs.Tests.{by-test, holds, no-true, and-l, and-r, not-true}
 
@@ -121,3 +121,11 @@ zero-cond n a b e = ap (λ (t : Bool). cond t a b) (eq-eqb n 0 e)
 
 pub nonzero-cond : {A : Type 0} (n : ℕ) (a b : A) → (n ≡ 0 → ⊥) → cond (eqb n 0) a b ≡ b
 nonzero-cond n a b f = ap (λ (t : Bool). cond t a b) (ne-eqb n 0 f)
+
+-- an answer that a number decides has that number, where the answer at 0 has 0
+pub number-cond : {A : Type 0} (number : A → ℕ) (n : ℕ) (a b : A) → number a ≡ 0 → number b ≡ n → number (cond (eqb n 0) a b) ≡ n
+number-cond number n a b z e = by-test (eqb n 0) (λ t. number (cond t a b) ≡ n) (λ t. z ∙ sym (eqb→eq n 0 t)) (λ t. e)
+
+-- what is said of an answer
+pub cond-of : {A B : Type 0} (f : A → B) (t : Bool) (a b : A) → f (cond t a b) ≡ cond t (f a) (f b)
+cond-of f t a b = by-test t (λ s. f (cond s a b) ≡ cond s (f a) (f b)) (λ s. refl) (λ s. refl)

@@ -1,4 +1,5 @@
 -- A station: its readings, what is computed of them, and the limits of GB 12898-91, Tables 6 and 8 (document 01, 'The station').
+use mathlib.Core.Path.{_≡_}
 use mathlib.Core.Bool.{Bool, not, cond, _&&_, _||_}
 use mathlib.Core.List.{List, [], _∷_}
 use Prim.Native.Nat.{ℕ}
@@ -15,6 +16,8 @@ use Rattle.station.specs.declared.Instrument.the-variants.{Ds3, Ds1}
 use Rattle.station.specs.declared.Limits.{Limits}
 use Rattle.station.specs.declared.Sighting.{Sighting}
 use Rattle.station.specs.declared.Figures.{Figures}
+use Rattle.station.specs.declared.Readings.{Readings}
+use Rattle.station.specs.declared.Readings.the-variants as Readings
 
 -- a staff's constant K and its four readings, in mm
 pub record Staff : Type 0 where
@@ -108,21 +111,30 @@ limitTests l accumulated f =
     ∷ (27, not (within (f .back .face) (l .face) && within (f .fore .face) (l .face)))
     ∷ (28, not (within (f .back .face -ℤ f .fore .face) (l .faces))) ∷ []
 
--- ---- the calls
+-- ---- what is answered of readings
 
 -- 6, 7, 8, or 0
 unfoldable pub readingRefusal : ℤ → ℤ → List (List ℤ) → ℕ
 readingRefusal kb kf readings = firstOf (readingTests (stationOf kb kf readings))
 
--- of a station whose readings are refused the figures are all 0, and no limit is tested
-abbrev pub noFigures : Figures
-noFigures =
-    record { back = record { sight = pos 0; face = pos 0 }; fore = record { sight = pos 0; face = pos 0 }; difference = pos 0; height = pos 0 }
+-- document 01's number of an answer, 0 for a station, and the station's figures
+abbrev pub readNumber : Readings → ℕ
+readNumber (Readings.Station f) = 0
+readNumber (Readings.Refused n) = n
 
-unfoldable pub figuresIfRead : ℤ → ℤ → List (List ℤ) → Figures
-figuresIfRead kb kf readings = cond (eqb (readingRefusal kb kf readings) 0) (figuresOf (stationOf kb kf readings)) noFigures
+abbrev pub readFigures : Readings → List Figures
+readFigures (Readings.Station f) = f ∷ []
+readFigures (Readings.Refused n) = []
 
--- 24 to 28, or 0
-unfoldable pub limitRefusal : Order → Instrument → ℤ → ℤ → ℤ → List (List ℤ) → ℕ
-limitRefusal order instrument accumulated kb kf readings =
-    cond (eqb (readingRefusal kb kf readings) 0) (firstOf (limitTests (limitsOf order instrument) accumulated (figuresOf (stationOf kb kf readings)))) 0
+-- the answer with a number: the figures where it is 0
+abbrev pub readAs : ℕ → Figures → Readings
+readAs n f = cond (eqb n 0) (Readings.Station f) (Readings.Refused n)
+
+abbrev pub readOf : ℤ → ℤ → List (List ℤ) → Readings
+readOf kb kf readings = readAs (readingRefusal kb kf readings) (figuresOf (stationOf kb kf readings))
+
+-- r is that answer, and has, by `readNumber` and `readFigures`, document 01's number and the station's figures
+abbrev pub Reads : ℤ → ℤ → List (List ℤ) → Readings → Type 0
+Reads kb kf readings r =
+    let n : ℕ = readingRefusal kb kf readings in
+    (r ≡ readOf kb kf readings) × ((readNumber r ≡ n) × (readFigures r ≡ cond (eqb n 0) (figuresOf (stationOf kb kf readings) ∷ []) []))

@@ -2,12 +2,12 @@
 // black middle and red middle in mm; kb and kf are the constants of the back and the fore staff.
 ghost use mathlib.Core.Path.{_≡_};
 ghost use mathlib.Core.Bool.{true, cond, _&&_};
-ghost use Prim.Native.Nat.{_≤_};
+ghost use Prim.Native.Nat.{_+_, _≤_};
+ghost use lib.Dec.{leb};
 ghost use lib.IntN.{pos, natAbs, _+ℤ_, _-ℤ_};
 ghost use Rattle.numbers.specs.Whole.{within};
 ghost use Rattle.numbers.specs.Tables.{firstOf};
-ghost use Rattle.station.specs.Bounds.{Small};
-ghost use Rattle.station.specs.Station.{staffOf, stationOf, sightingOf, twiceHeight, figuresOf, readingsInRange, threadsInOrder, constantsPaired, readingRefusal, figuresIfRead, sightLimit, limitsOf, limitTests, limitRefusal};
+ghost use Rattle.station.specs.Station.{staffOf, stationOf, sightingOf, twiceHeight, figuresOf, readingsInRange, threadsInOrder, constantsPaired, readingRefusal, Reads, sightLimit, limitsOf, limitTests};
 use roots::limits::magnitude;
 
 pub enum Order {
@@ -44,6 +44,12 @@ pub struct Figures {
     pub height: i64,
 }
 
+// What readings are: those of a station, with its figures, or refused with this number of document 01.
+pub enum Readings {
+    Station(Figures),
+    Refused(u8),
+}
+
 // code where t holds, rest otherwise.
 fn pick(t: bool, code: u8, rest: u8) -> u8
     ensures { λ r. ⌜ r ≡ cond t code rest ⌝ }
@@ -73,7 +79,7 @@ fn paired(kb: i64, kf: i64, readings: [[i64; 4]; 2]) -> bool
 }
 
 // The refusal that the readings and constants alone cause: 6, 7 or 8, or 0.
-pub fn reading_refusal(kb: i64, kf: i64, readings: [[i64; 4]; 2]) -> u8
+fn reading_refusal(kb: i64, kf: i64, readings: [[i64; 4]; 2]) -> u8
     ensures { λ r. ⌜ r ≡ readingRefusal kb kf readings ⌝ }
 {
     let back = readings[0];
@@ -120,20 +126,15 @@ fn computed(kb: i64, kf: i64, readings: [[i64; 4]; 2]) -> Figures
     }
 }
 
-// A station's figures, all 0 where its readings are refused.
-pub fn figures_of(kb: i64, kf: i64, readings: [[i64; 4]; 2]) -> Figures
-    ensures { λ r. ⌜ r ≡ figuresIfRead kb kf readings ⌝ }
+// A station's figures, or the refusal that its readings and constants alone cause: 6, 7 or 8.
+pub fn read(kb: i64, kf: i64, readings: [[i64; 4]; 2]) -> Readings
+    ensures { λ r. ⌜ Reads kb kf readings r ⌝ }
 {
-    if reading_refusal(kb, kf, readings) != 0 {
-        let none = Sighting { sight: 0, face: 0 };
-        return Figures {
-            back: none,
-            fore: none,
-            difference: 0,
-            height: 0,
-        };
+    let number = reading_refusal(kb, kf, readings);
+    if number != 0 {
+        return Readings::Refused(number);
     }
-    computed(kb, kf, readings)
+    Readings::Station(computed(kb, kf, readings))
 }
 
 fn sight_limit(order: Order, instrument: Instrument) -> u64
@@ -186,28 +187,39 @@ fn both_within(x: i64, y: i64, limit: u64) -> bool
     is_within(x, limit) & is_within(y, limit)
 }
 
-// Whether the accumulated d and one d more are within the limit together: a sum that could wrap is far beyond it.
-fn sum_within(accumulated: i64, d: i64, limit: u64) -> bool
-    requires { ⌜ (natAbs d ≤ 12000) × (limit ≤ 1000) ⌝ }
-    ensures { λ r. ⌜ r ≡ within (accumulated +ℤ d) limit ⌝ }
+// Whether the magnitudes of x and y together are within the limit.
+fn together_within(x: i64, y: i64, limit: u64) -> bool
+    ensures { λ r. ⌜ r ≡ leb (natAbs x + natAbs y) limit ⌝ }
 {
-    if 1000000 < magnitude(accumulated) {
-        false
-    } else {
-        is_within(accumulated + d, limit)
+    let m = magnitude(x);
+    if limit < m {
+        return false;
     }
+    magnitude(y) <= limit - m
 }
 
+// Whether x + y is within the limit, also where the sum would wrap.
+fn sum_within(x: i64, y: i64, limit: u64) -> bool
+    ensures { λ r. ⌜ r ≡ within (x +ℤ y) limit ⌝ }
+{
+    if (x < 0) == (y < 0) {
+        return together_within(x, y, limit);
+    }
+    is_within(x + y, limit)
+}
+
+// And x - y.
 fn difference_within(x: i64, y: i64, limit: u64) -> bool
-    requires { ⌜ (natAbs x ≤ 15786) × (natAbs y ≤ 15786) ⌝ }
     ensures { λ r. ⌜ r ≡ within (x -ℤ y) limit ⌝ }
 {
+    if (x < 0) != (y < 0) {
+        return together_within(x, y, limit);
+    }
     is_within(x - y, limit)
 }
 
 // The first limit that the figures break: 24 to 28, or 0.
 fn judged(l: Limits, accumulated: i64, f: Figures) -> u8
-    requires { ⌜ Small f × (l .accumulated ≤ 1000) ⌝ }
     ensures { λ r. ⌜ r ≡ firstOf (limitTests l accumulated f) ⌝ }
 {
     let faces = pick(!difference_within(f.back.face, f.fore.face, l.faces), 28, 0);
@@ -225,23 +237,9 @@ fn judged(l: Limits, accumulated: i64, f: Figures) -> u8
     )
 }
 
-// The refusal that the limits of an order and an instrument cause: 24 to 28, or 0. accumulated is the sum of d before this station.
-pub fn limit_refusal(
-    order: Order,
-    instrument: Instrument,
-    accumulated: i64,
-    kb: i64,
-    kf: i64,
-    readings: [[i64; 4]; 2],
-) -> u8
-    ensures { λ r. ⌜ r ≡ limitRefusal order instrument accumulated kb kf readings ⌝ }
+// The refusal that the limits of an order and an instrument cause to any figures: 24 to 28, or 0. accumulated is the sum of d before this station.
+pub fn judge(order: Order, instrument: Instrument, accumulated: i64, f: Figures) -> u8
+    ensures { λ r. ⌜ r ≡ firstOf (limitTests (limitsOf order instrument) accumulated f) ⌝ }
 {
-    if reading_refusal(kb, kf, readings) != 0 {
-        return 0;
-    }
-    judged(
-        limits_of(order, instrument),
-        accumulated,
-        computed(kb, kf, readings),
-    )
+    judged(limits_of(order, instrument), accumulated, f)
 }

@@ -13,7 +13,7 @@ use Rattle.numbers.proofs.Machine.{stored, stored-id}
 use Rattle.numbers.proofs.Chain.{Value, known, sub, fits, kept}
 use Rattle.station.specs.declared.Sighting.{Sighting}
 use Rattle.station.specs.Station.{Staff, Station, stationOf, staffOf, sightingOf, twiceHeight}
-use Rattle.station.proofs.Read.{SmallStaff, Read, read}
+use Rattle.station.proofs.Sizes.{SmallStaff, Read, read}
 use Rattle.station.proofs.computed.Statement.{statement}
 use Rattle.station.proofs.computed.Tie as tie
 

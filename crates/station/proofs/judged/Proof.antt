@@ -4,8 +4,11 @@ use mathlib.Core.Bool.{not, cond, _&&_}
 use lib.IntN.{_+ℤ_, _-ℤ_}
 use Rattle.numbers.specs.Whole.{within}
 use Rattle.numbers.proofs.Machine.{stored-id}
-use Rattle.numbers.proofs.Chain.{known}
 use borrow.Author.Needs.{needs}
+use mir.Syntax.{w64}
+use mir.Val.{SFits}
+use Rattle.station.specs.declared.Figures.{Figures}
+use Rattle.station.specs.declared.Sighting.{Sighting}
 use Rattle.station.proofs.judged.Statement.{statement}
 use Rattle.station.proofs.judged.Tie as tie
 
@@ -39,6 +42,19 @@ both-within-requires-2 c κs = search needs
 pick-requires-5 : tie.Need-pick-requires-5
 pick-requires-5 c κs = search needs
 
+-- every figure of the argument fits
+record FitSighting (g : Sighting) : Type 0 where
+  sight : SFits w64 (g .sight)
+  face : SFits w64 (g .face)
+
+record Fit (f : Figures) : Type 0 where
+  back : FitSighting (f .back)
+  fore : FitSighting (f .fore)
+  difference : SFits w64 (f .difference)
+
+fit : (s : tie.Start) → Fit (s .args .f)
+fit s = search needs
+
 returns : tie.Need-returns
 returns c =
     let sights = c .before in
@@ -53,12 +69,12 @@ returns c =
     let s = parted .before .before .before in
     let f = s .args .f in
     let l = s .args .l in
-    let h = s .pre .0 in
-    let back = known (f .back .face) (h .back .face) tt .is in
-    let fore = known (f .fore .face) (h .fore .face) tt .is in
-    let back-sight = known (f .back .sight) (h .back .sight) tt .is in
-    let fore-sight = known (f .fore .sight) (h .fore .sight) tt .is in
-    let d = known (f .difference) (h .difference) tt .is in
+    let h = fit s in
+    let back = stored-id (h .back .face) in
+    let fore = stored-id (h .fore .face) in
+    let back-sight = stored-id (h .back .sight) in
+    let fore-sight = stored-id (h .fore .sight) in
+    let d = stored-id (h .difference) in
     let e28 = twenty-eight .pick .ensures ∙ (λ i. cond (not ((parted .difference-within .ensures ∙ (λ j. within (back j -ℤ fore j) (l .faces))) i)) 28 0) in
     let e27 = twenty-seven .pick2 .ensures ∙ (λ i. cond (not ((faces .both-within .ensures ∙ (λ j. within (back j) (l .face) && within (fore j) (l .face))) i)) 27 (e28 i)) in
     let e26 = twenty-six .pick3 .ensures ∙ (λ i. cond (not ((sum .sum-within .ensures ∙ (λ j. within (stored-id (s .fits .accumulated) j +ℤ d j) (l .accumulated))) i)) 26 (e27 i)) in

@@ -4,7 +4,7 @@ use borrow.Author.Needs.{needs}
 use Rattle.numbers.proofs.Machine.{stored}
 use Rattle.numbers.proofs.Chain.{Value, known, add, sub, fits, kept}
 use Rattle.station.specs.Station.{Staff, staffOf, sight, faceDifference}
-use Rattle.station.proofs.Read.{SmallStaff, small-staff}
+use Rattle.station.proofs.Sizes.{SmallStaff, small-staff}
 use Rattle.station.proofs.sighting_of.Statement.{statement}
 use Rattle.station.proofs.sighting_of.Tie as tie
 

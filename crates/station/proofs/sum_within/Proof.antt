@@ -1,49 +1,42 @@
--- `sum_within` meets its contract: a large accumulated d is beyond the limit whatever is added, and any other sum fits.
-use mathlib.Core.Path.{_≡_, sym, ap, _∙_}
-use mathlib.Core.Bool.{false}
-use Prim.Native.Nat.{ℕ, _≤_, _<_}
-use native.Mathlib.Omega.{arith}
-use borrow.Author.Tests.{lt-leb}
-use lib.IntN.{ℤ, natAbs, _+ℤ_}
-use Rattle.numbers.specs.Whole.{within}
-use Rattle.numbers.proofs.Parts.{parts-add, parts-abs}
-use Rattle.numbers.proofs.Machine.{stored, stored-id}
-use Rattle.numbers.proofs.Chain.{Value, known, add, fits, kept}
+-- `sum_within` meets its contract: the magnitude of a sum of two numbers of one sign is theirs together, and the sum of two others fits.
+use mathlib.Core.Path.{sym, _∙_}
+use Prim.Native.Nat.{_+_}
+use lib.Dec.{leb}
+use lib.IntN.{natAbs, _+ℤ_}
 use borrow.Author.Needs.{needs}
+use mir.Syntax.{w64}
+use mir.Val.{SFits}
+use Rattle.numbers.specs.Whole.{within}
+use Rattle.numbers.proofs.Machine.{stored-id, stored-both, stored-as, fits-as, add-as}
+use Rattle.station.proofs.Signs.{fit-fits, by-signs}
 use Rattle.station.proofs.sum_within.Statement.{statement}
 use Rattle.station.proofs.sum_within.Tie as tie
 
-magnitude-requires : tie.Need-magnitude-requires
-magnitude-requires c κs = search needs
-
--- the magnitude that the call gave is the argument's
-size : (c : tie.After-magnitude) → c .magnitude .result ≡ natAbs (c .before .args .accumulated)
-size c = c .magnitude .ensures ∙ ap natAbs (stored-id (c .before .fits .accumulated))
-
-value : (c : tie.Else1) → Value (stored (c .before .before .args .accumulated) +ℤ stored (c .before .before .args .d)) (c .before .before .args .accumulated +ℤ c .before .before .args .d) 1012000
-value c =
-    let s = c .before .before in
-    let h : natAbs (s .args .accumulated) ≤ 1000000 = omega (arith, size (c .before), c .if1 .left) in
-    add (known (s .args .accumulated) h tt) (known (s .args .d) (s .pre .0) tt)
-
-far : (a d : ℤ) (limit : ℕ) → 1000000 < natAbs a → natAbs d ≤ 12000 → limit ≤ 1000 → within (a +ℤ d) limit ≡ false
-far a d limit h k l = lt-leb (natAbs (a +ℤ d)) limit (omega (arith, parts-add a d, parts-abs (a +ℤ d), parts-abs a, parts-abs d))
-
-add-is-within : tie.Need-add-is-within
-add-is-within c = fits (value c) tt
-
-is-within-requires : tie.Need-is-within-requires
-is-within-requires c κs = search needs
+together-within-requires : tie.Need-together-within-requires
+together-within-requires c κs = search needs
 
 returns : tie.Need-returns
 returns c =
     let s = c .before .before in
-    let h : 1000000 < natAbs (s .args .accumulated) = omega (arith, size (c .before), c .if1 .taken) in
-    sym (far (s .args .accumulated) (s .args .d) (s .args .limit) h (s .pre .0) (s .pre .1))
+    let law = by-signs (s .fits .x) (s .fits .y) (c .before .if1 .taken) in
+    c .together-within .ensures ∙ stored-both (λ x y. leb (natAbs x + natAbs y) (s .args .limit)) (s .fits .x) (s .fits .y) ∙ (λ i. leb (sym (law .0) i) (s .args .limit))
+
+fits : (c : tie.Else1) → SFits w64 (c .before .args .x +ℤ c .before .args .y)
+fits c = let s = c .before in fit-fits (s .args .x +ℤ s .args .y) (by-signs (s .fits .x) (s .fits .y) (c .if1 .left) .1)
+
+add-is-within : tie.Need-add-is-within
+add-is-within c = let f = c .before .fits in fits-as (add-as (stored-id (f .x)) (stored-id (f .y))) (fits c)
+
+is-within-requires : tie.Need-is-within-requires
+is-within-requires c κs = search needs
 
 returns-2 : tie.Need-returns-2
-returns-2 c = c .is-within .ensures ∙ (λ i. within (kept (value (c .before)) tt .is i) (c .before .before .before .args .limit))
+returns-2 c =
+    let s = c .before .before in
+    let sum = stored-as (add-as (stored-id (s .fits .x)) (stored-id (s .fits .y))) (fits (c .before)) in
+    c .is-within .ensures ∙ (λ i. within (sum i) (s .args .limit))
 
 pub sum-within-spec : {M : Type 1} → statement M
 sum-within-spec =
-    tie.close (tie.spec magnitude-requires add-is-within is-within-requires returns returns-2)
+    tie.close
+    (tie.spec together-within-requires returns add-is-within is-within-requires returns-2)

@@ -4,7 +4,7 @@ use borrow.Author.Needs.{needs}
 use Rattle.numbers.proofs.Machine.{stored}
 use Rattle.numbers.proofs.Chain.{Value, known, add, sub, fits, kept}
 use Rattle.station.specs.Station.{Station, stationOf}
-use Rattle.station.proofs.Read.{Read, read}
+use Rattle.station.proofs.Sizes.{Read, read}
 use Rattle.station.proofs.twice_height.Statement.{statement}
 use Rattle.station.proofs.twice_height.Tie as tie
 

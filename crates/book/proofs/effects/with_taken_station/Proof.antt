@@ -5,7 +5,7 @@ use Rattle.numbers.proofs.Tables.{first-none, zero-cond}
 use Rattle.numbers.proofs.Machine.{stored-id, stored-both}
 use Rattle.station.specs.Bounds.{Small}
 use Rattle.station.specs.Station.{stationOf, figuresOf, noFigures, readingRefusal, figuresIfRead}
-use Rattle.station.proofs.Read.{read, figures-small}
+use Rattle.station.proofs.Sizes.{read, figures-small}
 use Rattle.book.specs.Standing.{standingOf, withStation, broken}
 use Rattle.book.specs.Rules.{Call, station, inputTests, stateTests, bookRefusal, withRuns}
 use Rattle.book.proofs.Tables.{book-fails}
