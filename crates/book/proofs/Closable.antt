@@ -6,12 +6,12 @@ use lib.IntN.{ℤ}
 use Rattle.numbers.proofs.Tests.{or-r, not-false}
 use Rattle.adjust.specs.Sections.{sectionsOf, heightInRange}
 use Rattle.adjust.specs.Frames.{figuresFit, adjustedOf, nothing, adjustedIfFit}
-use Rattle.book.specs.declared.Book.{Book}
-use Rattle.book.specs.Standing.{standingOf, isEmpty, isReturn}
-use Rattle.book.specs.Rules.{close-line, bookRefusal}
+use Rattle.rules.specs.declared.Book.{Book}
+use Rattle.rules.specs.Standing.{standingOf, isEmpty, isReturn}
+use Rattle.rules.specs.Rules.{close-line, bookRefusal}
+use Rattle.rules.proofs.Tables.{book-fails}
+use Rattle.rules.proofs.Unbroken.{Unbroken, unbroken, some-long}
 use Rattle.book.specs.Calls.{closingOf}
-use Rattle.book.proofs.Tables.{book-fails}
-use Rattle.book.proofs.Unbroken.{Unbroken, unbroken, some-long}
 
 module _ (b : Book) (number end : ℤ) (taken : bookRefusal (standingOf b) (close-line number end) ≡ 0) where
   whole : Unbroken b

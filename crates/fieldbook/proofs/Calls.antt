@@ -13,8 +13,8 @@ use Rattle.columns.specs.Lines.{heading, title}
 use Rattle.columns.specs.Records.{lineIn}
 use Rattle.columns.specs.Texts.{lines, joined}
 use Rattle.columns.proofs.Compare.{same-refl}
-use Rattle.book.specs.declared.Stage.{Stage}
-use Rattle.book.specs.Standing.{isClosed}
+use Rattle.rules.specs.declared.Stage.{Stage}
+use Rattle.rules.specs.Standing.{isClosed}
 use Rattle.ledger.specs.Plain.{Reading, freshReading, after, figuresOf}
 use Rattle.ledger.proofs.Drops.{after-append}
 use Rattle.ledger.proofs.Every.{every-list, same-figures}

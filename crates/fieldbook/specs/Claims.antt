@@ -2,7 +2,7 @@
 use mathlib.Core.Path.{_≡_}
 use mathlib.Core.List.{List, _∷_, _++_, map}
 use Prim.Native.Nat.{ℕ}
-use Rattle.book.specs.declared.Stage.the-variants.{Closed}
+use Rattle.rules.specs.declared.Stage.the-variants.{Closed}
 use Rattle.ledger.specs.Plain.{freshReading, closings}
 use Rattle.ledger.specs.Claims.{ClosedOnce}
 use Rattle.columns.specs.Buffers.{putAt}

@@ -13,12 +13,12 @@ use super::reading::State;
 use adjust::Adjusted;
 use adjust::Point;
 use adjust::Summary;
-use book::Book;
 use book::calls::figures_of;
-use book::state::is_closed;
 use columns::writer::is_wide;
 use columns::writer::put_line;
 use columns::writer::put_title;
+use rules::Book;
+use rules::state::is_closed;
 
 // The refusal of a line, where there is one: the index after it.
 pub(crate) fn put_refusal(buf: &mut [u8], at: usize, line: usize, number: u8) -> usize

@@ -9,10 +9,10 @@ use Rattle.numbers.proofs.Tests.{by-test, no-true}
 use Rattle.station.specs.declared.Order.{Order}
 use Rattle.station.specs.declared.Order.the-variants.{Third}
 use Rattle.station.specs.Station.{Station}
-use Rattle.book.specs.declared.Stage.{Stage}
-use Rattle.book.specs.declared.Stage.the-variants.{Open}
-use Rattle.book.specs.Standing.{isOpen, twoWay}
-use Rattle.book.specs.Rules.{Call, open-line, station, end-run, drop-run, drop-section, close-line}
+use Rattle.rules.specs.declared.Stage.{Stage}
+use Rattle.rules.specs.declared.Stage.the-variants.{Open}
+use Rattle.rules.specs.Standing.{isOpen, twoWay}
+use Rattle.rules.specs.Rules.{Call, open-line, station, end-run, drop-run, drop-section, close-line}
 use Rattle.ledger.specs.Plain.{Reading, Awaited, after, next, taken, refusal, withLists}
 use Rattle.ledger.specs.Claims.{stationsOnly, RunDropped, SectionDropped}
 

@@ -12,9 +12,9 @@ use Rattle.station.specs.declared.Order.the-variants.{Third}
 use Rattle.adjust.specs.declared.Point.{Point}
 use Rattle.adjust.specs.Line.{frameOf, Closing, closing}
 use Rattle.adjust.specs.Claims.{Near, corrections, lastHeight}
-use Rattle.book.specs.declared.Stage.the-variants.{Open, Closed}
-use Rattle.book.specs.Standing.{Standing, broken}
-use Rattle.book.specs.Rules.{Call, open-line, station, end-run, drop-run, drop-section, close-line, inputTests, stateTests, bookRefusal, before30}
+use Rattle.rules.specs.declared.Stage.the-variants.{Open, Closed}
+use Rattle.rules.specs.Standing.{Standing, broken}
+use Rattle.rules.specs.Rules.{Call, open-line, station, end-run, drop-run, drop-section, close-line, inputTests, stateTests, bookRefusal, before30}
 use Rattle.ledger.specs.Plain.{Reading, freshReading, after, next, taken, refusal, standing, closings}
 
 -- ---- a closing

@@ -10,7 +10,7 @@ use Rattle.station.specs.Station.{Station, stationOf, sightDifference, faceDiff
 use Rattle.adjust.specs.declared.Section.{Section}
 use Rattle.adjust.specs.declared.Point.{Point}
 use Rattle.adjust.specs.Line.{Frame, frameOf, exactTop, closure, Closing, accidental}
-use Rattle.book.specs.Rules.{Call, open-line, station, end-run, close-line, discrepancyWithin}
+use Rattle.rules.specs.Rules.{Call, open-line, station, end-run, close-line, discrepancyWithin}
 use Rattle.ledger.specs.Plain.{freshReading, after, refusals, standing, runOf, closings}
 
 -- ---- the stations of case A
