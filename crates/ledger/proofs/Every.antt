@@ -13,9 +13,9 @@ use Rattle.station.specs.declared.Order.{Order}
 use Rattle.station.specs.declared.Order.the-variants.{Third, Fourth}
 use Rattle.adjust.specs.Line.{Closing, closing, lineLength}
 use Rattle.adjust.proofs.Lines.{line-sound}
-use Rattle.book.specs.declared.Stage.the-variants.{Closed}
-use Rattle.book.specs.Standing.{Standing}
-use Rattle.book.specs.Rules.{Call, open-line, station, end-run, drop-run, drop-section, close-line, inputTests}
+use Rattle.rules.specs.declared.Stage.the-variants.{Closed}
+use Rattle.rules.specs.Standing.{Standing}
+use Rattle.rules.specs.Rules.{Call, open-line, station, end-run, drop-run, drop-section, close-line, inputTests}
 use Rattle.ledger.specs.Plain.{Reading, Awaited, freshReading, after, next, taken, refusal, standing, runEnded, figuresOf, given, closings}
 use Rattle.ledger.specs.Claims.{SoundClosing, EveryList, takenOnly, StruckOut}
 use Rattle.ledger.proofs.Follows.{recast}

@@ -21,15 +21,15 @@ use Rattle.adjust.specs.Line.{Frame, pointsAfter, points, frameOf, Closing, clo
 use Rattle.adjust.specs.Frames.{noPoint, adjustedOf}
 use Rattle.adjust.specs.Call.{numberOf}
 use Rattle.adjust.proofs.Holding.{sections-holding, holding-again}
-use Rattle.book.specs.declared.Book.{Book}
+use Rattle.rules.specs.declared.Book.{Book}
 use Rattle.book.specs.declared.Change.{Change}
 use Rattle.book.specs.declared.Outcome.{Outcome}
 use Rattle.book.specs.declared.CloseAnswer.the-variants.{Closed, NotClosed}
 use Rattle.book.specs.declared.CloseOutcome.{CloseOutcome}
-use Rattle.book.specs.Standing.{Standing, standingOf, bookWith}
-use Rattle.book.specs.Rules.{Call, open-line, station, end-run, drop-run, drop-section, close-line, bookRefusal}
-use Rattle.book.specs.Rules as Rules
-use Rattle.book.proofs.Tables.{tests, tables}
+use Rattle.rules.specs.Standing.{Standing, standingOf, bookWith}
+use Rattle.rules.specs.Rules.{Call, open-line, station, end-run, drop-run, drop-section, close-line, bookRefusal}
+use Rattle.rules.specs.Rules as Rules
+use Rattle.rules.proofs.Tables.{tests, tables}
 use Rattle.book.specs.Changes.{Makes}
 use Rattle.book.specs.Calls.{freshBook, bookAfter, outcome, Answers, closingOf, closeNumber, closeValues, closeOutcome, gaveOf, figuresOf}
 use Rattle.book.proofs.Joined.{answers-as}

@@ -12,13 +12,13 @@ use Rattle.adjust.specs.declared.Adjusted.{Adjusted}
 use Rattle.adjust.specs.Line.{Closing}
 use Rattle.adjust.specs.Frames.{adjustedOf}
 use Rattle.adjust.specs.Call.{numberOf}
-use Rattle.book.specs.declared.Stage.the-variants.{Closed}
-use Rattle.book.specs.declared.Book.{Book}
+use Rattle.rules.specs.declared.Stage.the-variants.{Closed}
+use Rattle.rules.specs.declared.Book.{Book}
 use Rattle.book.specs.declared.Change.{Change}
 use Rattle.book.specs.declared.Outcome.{Outcome}
 use Rattle.book.specs.declared.CloseOutcome.{CloseOutcome}
-use Rattle.book.specs.Standing.{standingOf, bookWith}
-use Rattle.book.specs.Rules.{Call, open-line, station, end-run, drop-run, drop-section, close-line}
+use Rattle.rules.specs.Standing.{standingOf, bookWith}
+use Rattle.rules.specs.Rules.{Call, open-line, station, end-run, drop-run, drop-section, close-line}
 use Rattle.book.specs.Calls.{freshBook, closeNumber, gaveOf}
 use Rattle.book.proofs.fresh.Reads as fresh-reads
 use Rattle.book.proofs.calls.«open».Reads as open-reads

@@ -9,8 +9,8 @@ use Rattle.station.specs.Station.{Station, stationOf, sightDifference, faceDiff
 use Rattle.adjust.specs.declared.Section.{Section}
 use Rattle.adjust.specs.declared.Point.{Point}
 use Rattle.adjust.specs.Line.{Frame, frameOf, exactTop, closure, Closing, accidental}
-use Rattle.book.specs.Standing.{bothWays}
-use Rattle.book.specs.Rules.{Call, open-line, station, end-run, close-line}
+use Rattle.rules.specs.Standing.{bothWays}
+use Rattle.rules.specs.Rules.{Call, open-line, station, end-run, close-line}
 use Rattle.ledger.specs.Plain.{freshReading, after, refusals, standing, runOf, closings}
 
 -- ---- the stations of case A
