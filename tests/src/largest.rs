@@ -1,5 +1,6 @@
 //! The largest texts: 777 lines.
 
+use crate::opening::opening;
 use crate::plain::Call;
 use crate::text::LONGEST_TEXT;
 use crate::write::{filled, heading, text_of};
@@ -16,7 +17,7 @@ pub fn sixty_four_sections(order: i64, pairs: usize) -> Vec<Call> {
         station(4_687, [1_250, 1_050, 1_150, 5_837], [1_500, 1_300, 1_400, 6_187]),
         station(4_787, [1_000, 800, 900, 5_687], [1_300, 1_100, 1_200, 5_887]),
     ];
-    let mut calls = vec![Call::Open { order, instrument: 3, start: 1, height: 10_000 }];
+    let mut calls = opening(order);
     for k in 0..64 {
         let begin = k as i64 + 1;
         let here = pairs / 64 + usize::from(k < pairs % 64);
@@ -31,11 +32,13 @@ pub fn sixty_four_sections(order: i64, pairs: usize) -> Vec<Call> {
     calls
 }
 
-/// The largest book of an order: 777 lines, all taken, 64 sections, closed. At third order two of the lines drop an empty run.
+/// The largest book of an order: 777 lines, all taken, 64 sections, closed. Lines that no further pair of stations fits drop an empty run.
 pub fn largest_book(order: i64) -> Vec<u8> {
-    let mut calls = sixty_four_sections(order, if order == 3 { 161 } else { 355 });
+    let opened = opening(order).len();
+    let runs = if order == 3 { 2 } else { 1 };
+    let mut calls = sixty_four_sections(order, (776 - opened - 64 * runs - 1) / (2 * runs));
     while calls.len() < 776 {
-        calls.insert(1, Call::DropRun);
+        calls.insert(opened, Call::DropRun);
     }
     whole(text_of(&calls))
 }
@@ -51,17 +54,17 @@ pub fn refused_late(order: i64) -> Vec<u8> {
 
 /// A station in each line, on a book that is never opened: each is refused with 21.
 pub fn refused_stations() -> Vec<u8> {
-    whole(after_heading("STA    4787    1571    1197    1384    6171    4687     739     363     551    5239"))
+    whole(after_heading(&filled("STA    4787    1571    1197    1384    6171    4687     739     363     551    5239")))
 }
 
 /// Blank lines, each refused with 1.
 pub fn blank_lines() -> Vec<u8> {
-    whole(after_heading(""))
+    whole(after_heading(&filled("")))
 }
 
 /// The same line 776 times.
-pub fn after_heading(words: &str) -> Vec<u8> {
-    heading().into_iter().chain(filled(words).repeat(776)).collect()
+pub fn after_heading(line: &[u8]) -> Vec<u8> {
+    [heading(), line.repeat(776)].concat()
 }
 
 fn whole(text: Vec<u8>) -> Vec<u8> {

@@ -1,7 +1,7 @@
 //! Another implementation of the levelling book, written from document 01 alone; the tests compare the proved one with it.
 //!
 //! The other implementation: `fraction`, `station`, `rules`, `plain`, `standing`, `adjust`, and for texts `text`, `write`, `report`. Inputs for comparisons:
-//! `random`, `lent`, `examples`, for lists of calls `shoot`, `party`, `aim`, `trouble`, `work`, `generate`, `mutate`, and for texts `damage`, `largest`.
+//! `random`, `lent`, `examples`, `opening`, for lists of calls `shoot`, `party`, `aim`, `trouble`, `work`, `generate`, `mutate`, and for texts `damage`, `largest`.
 
 pub mod adjust;
 pub mod aim;
@@ -12,6 +12,7 @@ pub mod generate;
 pub mod largest;
 pub mod lent;
 pub mod mutate;
+pub mod opening;
 pub mod party;
 pub mod plain;
 pub mod random;

@@ -1,7 +1,8 @@
 //! Random changes of a list of calls: arguments at range limits, extreme values,
 //! calls lost, doubled or out of place.
 
-use crate::plain::Call;
+use crate::opening::usual;
+use crate::plain::{Call, Opened};
 use crate::random::Random;
 use crate::shoot::CONSTANTS;
 
@@ -48,7 +49,7 @@ const ODD_VALUES: [i64; 36] = [
 /// The arguments of a call, to be changed in place.
 pub fn arguments(call: &mut Call) -> Vec<&mut i64> {
     match call {
-        Call::Open { order, instrument, start, height } => vec![order, instrument, start, height],
+        Call::Open(Opened { order, instrument, start, height }) => vec![order, instrument, start, height],
         Call::Station { back_k, fore_k, readings } => {
             let mut all = vec![back_k, fore_k];
             all.extend(readings.iter_mut().flatten());
@@ -75,7 +76,7 @@ pub fn any_call(random: &mut Random) -> Call {
     let m = random.between(1, 2_999);
     let staff = [m + 1, m - 1, m, m + k];
     let mut call = match random.below(6) {
-        0 => Call::Open { order: 3, instrument: 3, start: 1, height: 0 },
+        0 => Call::Open(Opened { height: 0, ..usual(3) }),
         1 => Call::Station {
             back_k: k,
             fore_k: CONSTANTS[0] + CONSTANTS[1] - k,

@@ -2,6 +2,7 @@
 //! that it can aim at the limits.
 
 use crate::fraction::narrow;
+use crate::opening::usual;
 use crate::plain::{Answer, Call, Opened, Reading};
 use crate::random::Random;
 use crate::rules;
@@ -66,7 +67,7 @@ impl<'r> Party<'r> {
 
     pub fn opened(&self) -> Opened {
         let Style { order, instrument, .. } = self.style;
-        self.reading.opened.unwrap_or(Opened { order, instrument, start: 1, height: 0 })
+        self.reading.opened.unwrap_or(Opened { instrument, height: 0, ..usual(order) })
     }
 
     pub fn table(&self) -> Table {

@@ -8,7 +8,7 @@ use crate::station::{accumulated_d, sum_of_heights, sum_of_sights, Station, BACK
 /// `readings[0]` is the back staff, `readings[1]` the fore staff, each u, l, m, r.
 #[derive(Clone, Debug, PartialEq, Eq)]
 pub enum Call {
-    Open { order: i64, instrument: i64, start: i64, height: i64 },
+    Open(Opened),
     Station { back_k: i64, fore_k: i64, readings: [[i64; 4]; 2] },
     EndRun(i64),
     DropRun,
@@ -142,9 +142,7 @@ impl Reading {
     /// Takes or refuses one call; a refused call changes nothing.
     pub fn apply(&mut self, call: &Call) -> Answer {
         let outcome = match *call {
-            Call::Open { order, instrument, start, height } => {
-                self.open(Opened { order, instrument, start, height })
-            }
+            Call::Open(opened) => self.open(opened),
             Call::Station { back_k, fore_k, readings } => {
                 self.station(Station { back_k, fore_k, readings })
             }

@@ -1,7 +1,7 @@
 //! The text book (document 01, "The text book and the report"), read from any
 //! bytes.
 
-use crate::plain::Call;
+use crate::plain::{Call, Opened};
 
 /// Columns of a line; with the line feed it has one byte more.
 pub const COLUMNS: usize = 83;
@@ -90,7 +90,7 @@ pub fn parse_line(piece: &[u8]) -> Result<Call, u8> {
 /// gives K, u, l, m, r of the back staff, then of the fore staff.
 fn call(tag: &[u8], n: &[i64]) -> Call {
     match tag {
-        b"LIN" => Call::Open { order: n[0], instrument: n[1], start: n[2], height: n[3] },
+        b"LIN" => Call::Open(Opened { order: n[0], instrument: n[1], start: n[2], height: n[3] }),
         b"STA" => Call::Station {
             back_k: n[0],
             fore_k: n[5],

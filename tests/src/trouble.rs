@@ -2,8 +2,9 @@
 //! closings that are not due, calls out of place.
 
 use crate::mutate::any_call;
+use crate::opening::usual;
 use crate::party::{Goal, Party};
-use crate::plain::Call;
+use crate::plain::{Call, Opened};
 use crate::shoot::{other_staff, shoot, Wish};
 use crate::station::{BLACK, LOWER, RED, UPPER};
 
@@ -19,7 +20,7 @@ impl Party<'_> {
             0..=3 => Call::EndRun(self.doubtful_number()),
             4 => Call::DropRun,
             5 => Call::DropSection,
-            6 => self.opening(),
+            6 => Call::Open(self.opening_values()),
             7..=9 => self.doubtful_closing(),
             10..=11 => any_call(self.random),
             12..=29 => self.station_at_a_limit(goal),
@@ -63,9 +64,9 @@ impl Party<'_> {
         Call::CloseLine { number: self.doubtful_number(), height: self.doubtful_height() }
     }
 
-    /// An opening with the line's order, numbers and heights at their limits now
-    /// and then.
-    pub fn opening(&mut self) -> Call {
+    /// What the line may be opened with: its order, numbers and heights at their limits
+    /// now and then.
+    pub fn opening_values(&mut self) -> Opened {
         let start = match self.random.below(20) {
             0 => 1,
             1 => 9_999,
@@ -77,7 +78,7 @@ impl Party<'_> {
             2..=4 => self.random.between(-3_000, 3_000),
             _ => self.random.between(-100_000, 5_000_000),
         };
-        Call::Open { order: self.style.order, instrument: self.style.instrument, start, height }
+        Opened { instrument: self.style.instrument, start, height, ..usual(self.style.order) }
     }
 
     /// A station with one of its figures at its limit.

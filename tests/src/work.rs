@@ -1,6 +1,7 @@
 //! The work on a line: setting out, runs, sections, closing.
 
 use crate::mutate::any_call;
+use crate::opening::opening_of;
 use crate::party::{Goal, Party};
 use crate::plain::Call;
 use crate::rules::STATIONS_OF_A_RUN;
@@ -18,28 +19,27 @@ impl Party<'_> {
                 _ => self.wrong_opening(),
             }
         }
-        let opening = self.opening();
-        self.put(opening);
+        for call in opening_of(self.opening_values()) {
+            self.put(call);
+        }
         if self.troubled() {
-            let again = self.opening();
-            self.put(again);
+            let again = self.opening_values();
+            self.put(Call::Open(again));
         }
     }
 
     /// An opening with one or two bad arguments.
     fn wrong_opening(&mut self) {
-        let Call::Open { mut order, mut instrument, mut start, mut height } = self.opening() else {
-            return;
-        };
+        let mut opened = self.opening_values();
         for _ in 0..=self.random.below(2) {
             match self.random.below(4) {
-                0 => order = *self.random.pick(&[2, 5, 0, -3]),
-                1 => instrument = *self.random.pick(&[2, 0, 4, -1, 5]),
-                2 => start = *self.random.pick(&[0, 10_000, -1]),
-                _ => height = *self.random.pick(&[-1_000_000, 9_000_000]),
+                0 => opened.order = *self.random.pick(&[2, 5, 0, -3]),
+                1 => opened.instrument = *self.random.pick(&[2, 0, 4, -1, 5]),
+                2 => opened.start = *self.random.pick(&[0, 10_000, -1]),
+                _ => opened.height = *self.random.pick(&[-1_000_000, 9_000_000]),
             }
         }
-        self.put(Call::Open { order, instrument, start, height });
+        self.put(Call::Open(opened));
     }
 
     /// Stations until the run has as many as its goal; a refused one is shot
@@ -134,7 +134,7 @@ impl Party<'_> {
         let goal = Goal { stations: 2, sum: 400, twice: 0 };
         for _ in 0..self.random.below(4) {
             let call = match self.random.below(6) {
-                0 => self.opening(),
+                0 => Call::Open(self.opening_values()),
                 1 => self.doubtful_closing(),
                 2 => Call::EndRun(self.doubtful_number()),
                 3 => self.random.pick(&[Call::DropRun, Call::DropSection]).clone(),

@@ -1,7 +1,7 @@
 //! Writing lines in the form of the text book and the report (document 01, "The
 //! text book and the report"), and text books from calls.
 
-use crate::plain::Call;
+use crate::plain::{Call, Opened};
 use crate::text::{COLUMNS, FIELD};
 
 /// Words filled with blanks to 83 columns, and a line feed.
@@ -31,7 +31,7 @@ pub fn heading() -> Vec<u8> {
 /// The tag and numbers of a call.
 pub fn words_of(call: &Call) -> (&'static str, Vec<i64>) {
     match *call {
-        Call::Open { order, instrument, start, height } => {
+        Call::Open(Opened { order, instrument, start, height }) => {
             ("LIN", vec![order, instrument, start, height])
         }
         Call::Station { back_k, fore_k, readings: [back, fore] } => {
@@ -46,6 +46,13 @@ pub fn words_of(call: &Call) -> (&'static str, Vec<i64>) {
         Call::DropSection => ("DRS", vec![]),
         Call::CloseLine { number, height } => ("END", vec![number, height]),
     }
+}
+
+/// A call as the list runner takes it: its kind and its arguments, which are those of its text line.
+pub fn numbers_of(call: &Call) -> Vec<i64> {
+    let (tag, numbers) = words_of(call);
+    let kind = ["LIN", "STA", "RUN", "DRR", "DRS", "END"].iter().position(|&one| one == tag).expect("a tag") as i64 + 1;
+    [vec![kind], numbers].concat()
 }
 
 /// The text line of a call; none if an argument is wider than eight columns.

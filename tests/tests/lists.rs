@@ -7,21 +7,15 @@ use level_tests::mutate::any_call;
 use level_tests::plain::{Answer, Call, Closing, Reading};
 use level_tests::random::Random;
 use level_tests::station::{accumulated_d, sum_of_heights, sum_of_sights};
+use level_tests::write::numbers_of;
 
 /// The figures of a book: W, L, n, T, verdict, five of the line, and four of each of 65 points.
 const FIGURES: usize = 10 + 4 * 65;
 
 /// A call's numbers; those that its kind does not use are anything.
-fn numbers_of(random: &mut Random, call: &Call) -> [i64; 11] {
+fn eleven(random: &mut Random, call: &Call) -> [i64; 11] {
     let mut numbers = [0; 11].map(|_: i64| random.next() as i64);
-    let used = match *call {
-        Call::Open { order, instrument, start, height } => vec![1, order, instrument, start, height],
-        Call::Station { back_k, fore_k, readings } => [&[2, back_k], &readings[0][..], &[fore_k], &readings[1][..]].concat(),
-        Call::EndRun(number) => vec![3, number],
-        Call::DropRun => vec![4],
-        Call::DropSection => vec![5],
-        Call::CloseLine { number, height } => vec![6, number, height],
-    };
+    let used = numbers_of(call);
     numbers[..used.len()].copy_from_slice(&used);
     numbers
 }
@@ -63,7 +57,7 @@ fn compare(random: &mut Random, calls: &[Call], counts: &mut BTreeMap<u8, u64>) 
     let mut expected = Vec::new();
     let mut list = Vec::new();
     for call in calls {
-        let mut numbers = numbers_of(random, call);
+        let mut numbers = eleven(random, call);
         if *call == Call::EndRun(0) {
             let none = no_kind(random);
             numbers[0] = *random.pick(&[3, none]);

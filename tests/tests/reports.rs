@@ -7,6 +7,8 @@ use level_tests::examples::{book, examples};
 use level_tests::generate::{line, Kind};
 use level_tests::largest::{after_heading, blank_lines, largest_book, refused_late, sixty_four_sections};
 use level_tests::mutate::any_call;
+use level_tests::opening::opening;
+use level_tests::plain::Call;
 use level_tests::random::Random;
 use level_tests::report::{reduce_into, SHORTEST_BUFFER};
 use level_tests::text::{number, LINE, LONGEST_TEXT};
@@ -149,8 +151,9 @@ fn sixty_four_sections_in_a_text() {
 /// 777 lines: all refused but the heading; all taken; 64 sections with refused lines before the end; and any calls after a long line's.
 #[test]
 fn the_largest_text() {
-    for (words, refusal) in [("", 1), ("RUN", 2), ("LIN       5       3       1       0", 3), ("DRR", 21)] {
-        let text = after_heading(words);
+    let order_5 = line_of(&opening(5)[0]).unwrap();
+    for (line, refusal) in [(filled(""), 1), (filled("RUN"), 2), (order_5, 3), (filled("DRR"), 21)] {
+        let text = after_heading(&line);
         assert_eq!(text.len(), LONGEST_TEXT);
         let report = compare(&text).unwrap();
         assert_eq!(report.len(), 778 * LINE);
@@ -159,7 +162,7 @@ fn the_largest_text() {
     for order in [3, 4] {
         assert_eq!(compare(&largest_book(order)).unwrap().len(), 67 * LINE);
         let report = compare(&refused_late(order)).unwrap();
-        assert_eq!(report.len(), (67 + 776 - if order == 3 { 386 } else { 194 }) * LINE);
+        assert_eq!(report.len(), (67 + 776 - sixty_four_sections(order, 64).len()) * LINE);
     }
     let mut random = Random::new(24);
     for _ in 0..200 {
@@ -254,7 +257,7 @@ fn bytes_at_every_place() {
 /// All 256 bytes at every place of a short text.
 #[test]
 fn all_bytes() {
-    let whole = [heading(), filled("LIN       4       3       1   10000"), filled("END       1   -9999")].concat();
+    let whole = text_of(&[opening(4), vec![Call::CloseLine { number: 1, height: -9_999 }]].concat());
     for place in 0..whole.len() {
         for byte in 0..=255 {
             let mut text = whole.clone();

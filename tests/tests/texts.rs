@@ -1,7 +1,7 @@
 //! The other implementation's reading of lines and writing of points, by itself; the whole reports are compared in reports.rs.
 
 use level_tests::generate::short_book;
-use level_tests::plain::{Answer, Call, Closing, Point, Reading};
+use level_tests::plain::{Answer, Call, Closing, Opened, Point, Reading};
 use level_tests::random::Random;
 use level_tests::report::{reduce, report};
 use level_tests::text::{number, parse, parse_line, LONGEST_TEXT};
@@ -48,7 +48,7 @@ fn every_tag_gives_its_call() {
     let calls = [
         (
             line("LIN", &[4, 3, 1, 10_000]),
-            Call::Open { order: 4, instrument: 3, start: 1, height: 10_000 },
+            Call::Open(Opened { order: 4, instrument: 3, start: 1, height: 10_000 }),
         ),
         (
             line("STA", &station),

@@ -10,14 +10,14 @@ use Rattle.numbers.proofs.Tests.{by-test, or-r, not-false}
 use Rattle.adjust.specs.declared.Summary.{Summary}
 use Rattle.adjust.specs.Sections.{sectionsOf, heightInRange}
 use Rattle.adjust.specs.Frames.{figuresFit, adjustedOf, nothing, adjustedIfFit}
-use Rattle.book.specs.declared.Book.{Book}
+use Rattle.rules.specs.declared.Book.{Book}
 use Rattle.book.specs.declared.CloseAnswer.the-variants.{Closed, NotClosed}
 use Rattle.book.specs.declared.CloseOutcome.{CloseOutcome}
-use Rattle.book.specs.Standing.{standingOf, isEmpty, isReturn}
-use Rattle.book.specs.Rules.{close-line, bookRefusal}
+use Rattle.rules.specs.Standing.{standingOf, isEmpty, isReturn}
+use Rattle.rules.specs.Rules.{close-line, bookRefusal}
 use Rattle.book.specs.Calls.{closingOf, closeNumber, closeValues, closeAnswerOf, closeOutcome, Closes}
-use Rattle.book.proofs.Tables.{book-fails}
-use Rattle.book.proofs.Unbroken.{Unbroken, unbroken, some-long}
+use Rattle.rules.proofs.Tables.{book-fails}
+use Rattle.rules.proofs.Unbroken.{Unbroken, unbroken, some-long}
 
 close-number : (n : ℕ) (s : Summary) → closeNumber (closeAnswerOf n s) ≡ n
 close-number n s = by-test (eqb n 0) (λ t. closeNumber (cond t (Closed s) (NotClosed n)) ≡ n) (λ t. sym (eqb→eq n 0 t)) (λ t. refl)

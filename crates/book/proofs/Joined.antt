@@ -18,17 +18,17 @@ use Rattle.adjust.proofs.Refused.{number-of-answer}
 use Rattle.adjust.specs.declared.Section.{Section}
 use Rattle.adjust.proofs.Lists.{from-length}
 use Rattle.adjust.proofs.Holding.{Whole, holding-own}
-use Rattle.book.specs.declared.Line.{Line}
-use Rattle.book.specs.declared.Book.{Book}
+use Rattle.rules.specs.declared.Line.{Line}
+use Rattle.rules.specs.declared.Book.{Book}
+use Rattle.rules.specs.declared.Waiting.the-variants.{Nothing}
+use Rattle.rules.specs.Standing.{Standing, standingOf, bookWith, noRun}
+use Rattle.rules.specs.Rules.{Call, open-line, station, end-run, close-line, withRuns, withSection, bookRefusal, taken}
+use Rattle.rules.proofs.Tables.{not-broken}
+use Rattle.rules.proofs.Unbroken.{unbroken}
 use Rattle.book.specs.declared.Change.{Change}
 use Rattle.book.specs.declared.Outcome.{Outcome}
-use Rattle.book.specs.declared.Waiting.the-variants.{Nothing}
-use Rattle.book.specs.Standing.{Standing, standingOf, bookWith, noRun}
-use Rattle.book.specs.Rules.{Call, open-line, station, end-run, close-line, withRuns, withSection, bookRefusal, taken}
 use Rattle.book.specs.Calls.{bookAfter, outcome, Answers}
 use Rattle.book.specs.Changes.{noSection, movedTo, changeTo, changed, Leaves, Makes}
-use Rattle.book.proofs.Tables.{not-broken}
-use Rattle.book.proofs.Unbroken.{unbroken}
 
 -- a change of the line alone leads to what has the same sections
 moved-to : (n : ℕ) (b : Book) (v : Standing) {l : Line} → l ≡ v .line → sectionsOf (b .sections) ≡ v .sections → movedTo n l ≡ changeTo n b v

@@ -16,15 +16,15 @@ use Rattle.adjust.specs.Sections.{sectionsOf}
 use Rattle.adjust.specs.Line.{Closing, closing}
 use Rattle.adjust.specs.Frames.{noPoint, adjustedOf, nothing, adjustedIfFit}
 use Rattle.adjust.specs.Call.{numberOf, answerOf}
-use Rattle.book.specs.declared.Stage.the-variants.{Fresh}
-use Rattle.book.specs.declared.Waiting.the-variants.{Nothing}
-use Rattle.book.specs.declared.Book.{Book}
+use Rattle.rules.specs.declared.Stage.the-variants.{Fresh}
+use Rattle.rules.specs.declared.Waiting.the-variants.{Nothing}
+use Rattle.rules.specs.declared.Book.{Book}
+use Rattle.rules.specs.Standing.{standingOf, bookWith, isClosed, noRun}
+use Rattle.rules.specs.Rules.{Call, close-line, bookRefusal, taken}
 use Rattle.book.specs.declared.Outcome.{Outcome}
 use Rattle.book.specs.declared.CloseAnswer.{CloseAnswer}
 use Rattle.book.specs.declared.CloseAnswer.the-variants.{Closed, NotClosed}
 use Rattle.book.specs.declared.CloseOutcome.{CloseOutcome}
-use Rattle.book.specs.Standing.{standingOf, bookWith, isClosed, noRun}
-use Rattle.book.specs.Rules.{Call, close-line, bookRefusal, taken}
 
 abbrev pub freshBook : Book
 freshBook =

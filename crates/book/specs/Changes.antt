@@ -1,39 +1,19 @@
--- How the code makes a call of a book: what it sees of the sections, and what it changes, before it touches the book. No rule of document 01.
+-- How the code makes a call of a book: what it changes, before it touches the book. No rule of document 01.
 use mathlib.Core.Path.{_≡_}
-use mathlib.Core.Bool.{Bool, false, not, cond, _&&_}
-use mathlib.Core.List.{List, [], _∷_, _++_}
+use mathlib.Core.Bool.{false, cond, _&&_}
+use mathlib.Core.List.{[], _∷_, _++_}
 use Prim.Native.Nat.{ℕ}
 use lib.Dec.{ltb, eqb}
 use lib.ListN.{length, getD}
-use lib.IntN.{ℤ, pos}
-use Rattle.numbers.specs.Whole.{eqZ, anyOf}
+use lib.IntN.{pos}
 use Rattle.adjust.specs.declared.Section.{Section}
-use Rattle.adjust.specs.declared.Sections.{Sections}
-use Rattle.adjust.specs.Sections.{sectionsOf, holding, unnumbered, misfitIn}
-use Rattle.book.specs.declared.Line.{Line}
-use Rattle.book.specs.declared.Book.{Book}
+use Rattle.adjust.specs.Sections.{sectionsOf, holding, unnumbered}
+use Rattle.rules.specs.declared.Line.{Line}
+use Rattle.rules.specs.declared.Book.{Book}
+use Rattle.rules.specs.Standing.{Standing, standingOf, bookWith}
+use Rattle.rules.specs.Rules.{Call, bookRefusal, taken}
 use Rattle.book.specs.declared.Change.{Change}
-use Rattle.book.specs.declared.state.Seen.{Seen}
-use Rattle.book.specs.Standing.{Standing, standingOf, bookWith, brokenBy}
-use Rattle.book.specs.Rules.{Call, bookRefusal, taken}
 use Rattle.book.specs.Calls.{bookAfter}
-
--- ---- what is seen of the sections
-
--- the first count sections by their numbers alone
-abbrev pub numbered : ℕ → List ℤ → Sections
-numbered count ns = record { count = count; numbers = ns; heights = []; distances = []; discrepancies = [] }
-
-abbrev pub isAmong : ℕ → List ℤ → ℤ → Bool
-isAmong count ns number = anyOf (λ (x : Section). eqZ (x .number) number) (sectionsOf (numbered count ns))
-
--- what a line and the lent lists of its sections show: whether they are broken, and where they are not, whether the loop is shut
-unfoldable pub seenIn : Line → ℕ → List ℤ → List ℤ → List ℤ → List ℤ → Seen
-seenIn l count ns hs ds es =
-    let b : Bool = brokenBy (misfitIn count hs ds es) l count in
-    record { broken = b; shut = not b && isAmong count ns (l .start .number) }
-
--- ---- what is changed
 
 abbrev pub noSection : Section
 noSection = unnumbered (pos 0) (pos 0) (pos 0)

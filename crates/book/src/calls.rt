@@ -1,22 +1,22 @@
 // The calls of a book. Each gives its answer and the book after it; a refused call leaves the very book.
 ghost use mathlib.Core.Path.{_≡_};
 ghost use Rattle.adjust.specs.Call.{answerOf};
-ghost use Rattle.book.specs.Rules.{open-line, station, end-run, drop-run, drop-section};
+ghost use Rattle.rules.specs.Rules.{open-line, station, end-run, drop-run, drop-section};
 ghost use mathlib.Core.List.{[]};
 ghost use Rattle.numbers.specs.Whole.{filled};
 ghost use Rattle.adjust.specs.Frames.{noPoint};
 ghost use Rattle.book.specs.Calls.{Answers, Closes, figuresOf};
 ghost use Rattle.book.specs.Changes.{changed};
-use super::Book;
 use super::Change;
 use super::CloseAnswer;
 use super::CloseOutcome;
 use super::Outcome;
 use super::changes;
-use super::state::is_closed;
 use adjust::Adjusted;
 use adjust::Answer;
 use adjust::Point;
+use rules::Book;
+use rules::state::is_closed;
 
 fn answer_of(code: u8) -> Answer
     ensures { λ r. ⌜ r ≡ answerOf code ⌝ }

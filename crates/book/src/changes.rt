@@ -3,24 +3,24 @@ ghost use mathlib.Core.Path.{_≡_};
 ghost use mathlib.Core.List.{[], _∷_, _++_};
 ghost use Prim.Native.Nat.{_<_};
 ghost use Rattle.adjust.specs.Sections.{sectionsOf, holding};
-ghost use Rattle.book.specs.Rules.{open-line, station, end-run, drop-run, drop-section, close-line};
+ghost use Rattle.rules.specs.Rules.{open-line, station, end-run, drop-run, drop-section, close-line};
 ghost use Rattle.book.specs.Changes.{movedTo, changed, Makes};
-use super::Book;
 use super::Change;
-use super::Line;
-use super::closing::close_refusal;
 use super::effects::closed;
 use super::effects::opened;
 use super::effects::run_dropped;
 use super::effects::run_ended;
 use super::effects::section_dropped;
 use super::effects::with_taken_station;
-use super::refusals::drop_refusal;
-use super::refusals::end_refusal;
-use super::refusals::open_refusal;
-use super::refusals::station_refusal;
 use adjust::Section;
 use adjust::Sections;
+use rules::Book;
+use rules::Line;
+use rules::closing::close_refusal;
+use rules::refusals::drop_refusal;
+use rules::refusals::end_refusal;
+use rules::refusals::open_refusal;
+use rules::refusals::station_refusal;
 
 // A change of the line alone. Of a call that is refused the line is the old one.
 pub fn moved(number: u8, line: Line) -> Change

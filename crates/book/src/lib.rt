@@ -1,4 +1,4 @@
-// The book of one levelling line.
+// The book of one levelling line: its calls.
 ghost use mathlib.Core.Path.{_≡_};
 ghost use Rattle.book.specs.Calls.{freshBook};
 use adjust::Answer;
@@ -7,52 +7,17 @@ use adjust::Point;
 use adjust::Section;
 use adjust::Sections;
 use adjust::Summary;
+use rules::Book;
+use rules::Line;
+use rules::Run;
+use rules::Stage;
+use rules::Waiting;
 use station::Instrument;
 use station::Order;
 
 pub mod calls;
 pub mod changes;
-mod closing;
 mod effects;
-mod refusals;
-pub mod state;
-
-pub enum Stage {
-    Fresh,
-    Open,
-    Closed,
-}
-
-// A run: how many stations, G in half mm, s in dm, the sum of d in dm, and the constant of the last fore staff, 0 for none.
-pub struct Run {
-    pub count: usize,
-    pub height: i64,
-    pub sights: i64,
-    pub difference: i64,
-    pub last: i64,
-}
-
-// What waits for its return: nothing, or an outward run and the number that it ended on.
-pub enum Waiting {
-    Nothing,
-    Outward(i64, Run),
-}
-
-// All of a line but its finished sections. The end height is 0 until the line is closed.
-pub struct Line {
-    pub stage: Stage,
-    pub order: Order,
-    pub instrument: Instrument,
-    pub start: Benchmark,
-    pub end: i64,
-    pub waiting: Waiting,
-    pub present: Run,
-}
-
-pub struct Book {
-    pub line: Line,
-    pub sections: Sections,
-}
 
 // What a call makes of a book: document 01's number, 0 where the call is taken; the line that it leaves; whether it finishes a section, and which.
 // It holds no array.

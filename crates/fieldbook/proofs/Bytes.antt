@@ -12,9 +12,9 @@ use Rattle.columns.specs.Decimals.{same}
 use Rattle.columns.specs.Lines.{fields, lineFits, lineWith, tagLine, isWide, heading}
 use Rattle.columns.specs.Texts.{linesBy, lines, joined}
 use Rattle.columns.proofs.Lines.{length-with, length-title, fits-line}
-use Rattle.book.specs.declared.Stage.{Stage}
-use Rattle.book.specs.declared.Stage.the-variants.{Fresh, Open, Closed}
-use Rattle.book.specs.Standing.{isClosed}
+use Rattle.rules.specs.declared.Stage.{Stage}
+use Rattle.rules.specs.declared.Stage.the-variants.{Fresh, Open, Closed}
+use Rattle.rules.specs.Standing.{isClosed}
 use Rattle.ledger.specs.Plain.{Reading, freshReading, sectionOf, figuresOf}
 use Rattle.ledger.proofs.Traced.{points-length}
 use Rattle.textbook.specs.Text.{Refusal, lineRefusals, refusalsFrom, readingAfter}

@@ -15,11 +15,11 @@ use Rattle.columns.specs.Texts.{lines, joined}
 use Rattle.columns.proofs.Compare.{same-refl}
 use Rattle.adjust.specs.Line.{Closing}
 use Rattle.adjust.specs.Sections.{holding}
-use Rattle.book.specs.declared.Stage.{Stage}
-use Rattle.book.specs.declared.Stage.the-variants.{Fresh, Open, Closed}
-use Rattle.book.specs.declared.Book.{Book}
-use Rattle.book.specs.Rules.{Call}
-use Rattle.book.specs.Standing.{isClosed}
+use Rattle.rules.specs.declared.Stage.{Stage}
+use Rattle.rules.specs.declared.Stage.the-variants.{Fresh, Open, Closed}
+use Rattle.rules.specs.declared.Book.{Book}
+use Rattle.rules.specs.Rules.{Call}
+use Rattle.rules.specs.Standing.{isClosed}
 use Rattle.ledger.specs.Plain.{Reading, freshReading, after, sectionOf, figuresOf}
 use Rattle.ledger.specs.Trace.{SoundTrace}
 use Rattle.ledger.proofs.Drops.{after-append}

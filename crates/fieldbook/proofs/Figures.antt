@@ -21,7 +21,7 @@ use Rattle.station.specs.declared.Order.the-variants.{Third, Fourth}
 use Rattle.adjust.specs.declared.Section.{Section}
 use Rattle.adjust.specs.Line.{Frame, exactTop, accidental, accidentalSum, verdict}
 use Rattle.adjust.proofs.Lists.{Fit, fit-head, fit-tail}
-use Rattle.book.specs.Rules.{discrepancyWithin, lengthLimit, closureWithin}
+use Rattle.rules.specs.Rules.{discrepancyWithin, lengthLimit, closureWithin}
 use Rattle.ledger.proofs.Runs.{root-size, narrow}
 
 -- ---- sections

@@ -19,11 +19,11 @@ use Rattle.columns.specs.Decimals.{same}
 use Rattle.columns.specs.Lines.{heading, title}
 use Rattle.columns.specs.Records.{lineIn}
 use Rattle.columns.specs.Texts.{lines, joined}
-use Rattle.book.specs.declared.Stage.{Stage}
-use Rattle.book.specs.declared.Stage.the-variants.{Fresh, Open, Closed}
-use Rattle.book.specs.Standing.{isClosed}
+use Rattle.rules.specs.declared.Stage.{Stage}
+use Rattle.rules.specs.declared.Stage.the-variants.{Fresh, Open, Closed}
+use Rattle.rules.specs.Standing.{isClosed}
 use Rattle.book.specs.Calls.{figuresOf}
-use Rattle.book.specs.Rules.{Call}
+use Rattle.rules.specs.Rules.{Call}
 use Rattle.adjust.specs.Sections.{holding}
 use Rattle.ledger.specs.Plain as Plain
 use Rattle.ledger.specs.Plain.{Reading, freshReading, after, standing, sectionOf}

@@ -16,12 +16,12 @@ use Rattle.columns.specs.declared.reader.Kind.{Kind}
 use Rattle.columns.specs.declared.reader.Kind.the-variants.{Record, Refused}
 use Rattle.columns.specs.declared.reader.Line.{Line}
 use Rattle.columns.specs.Records.{lineIn}
-use Rattle.book.specs.declared.Stage.{Stage}
-use Rattle.book.specs.declared.Stage.the-variants.{Fresh, Open, Closed}
-use Rattle.book.specs.Standing.{isOpen}
-use Rattle.book.specs.Rules.{Call, open-line, station, end-run, drop-run, drop-section, close-line}
+use Rattle.rules.specs.declared.Stage.{Stage}
+use Rattle.rules.specs.declared.Stage.the-variants.{Fresh, Open, Closed}
+use Rattle.rules.specs.Standing.{isOpen}
+use Rattle.rules.specs.Rules.{Call, open-line, station, end-run, drop-run, drop-section, close-line}
 use Rattle.ledger.specs.Plain.{Reading, Awaited, refusal, taken, runEnded, standing}
-use Rattle.book.proofs.Tables.{fails}
+use Rattle.rules.proofs.Tables.{fails}
 use Rattle.ledger.proofs.Follows.{recast}
 use Rattle.textbook.specs.Text.{Refusal, callOf, lineRefusal, lineNext, lineRefusals, refusalsFrom, readingAfter}
 

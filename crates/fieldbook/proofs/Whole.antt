@@ -23,9 +23,9 @@ use Rattle.columns.specs.Lines.{lineEnd, heading, title}
 use Rattle.columns.specs.Records.{letters, tags, tagAmong, fieldCount, allNumbers, numbersIn, refusedLine, recordLine, numbersLine, recordIn, lineOfKind, lineIn}
 use Rattle.columns.specs.Texts.{lines}
 use Rattle.columns.proofs.Lines.{length-line, length-title}
-use Rattle.book.specs.Standing.{isClosed}
-use Rattle.book.specs.Rules.{Call}
-use Rattle.book.proofs.Tables.{tests, tables}
+use Rattle.rules.specs.Standing.{isClosed}
+use Rattle.rules.specs.Rules.{Call}
+use Rattle.rules.proofs.Tables.{tests, tables}
 use Rattle.ledger.specs.Plain.{Reading, freshReading, after, refusal, standing, sectionOf, figuresOf}
 use Rattle.textbook.specs.Text.{Refusal, callOf, lineRefusal, lineNext, lineRefusals, readingAfter, callsOf, refusalsFrom}
 use Rattle.fieldbook.specs.Report.{refLine, closedNumbers, closedLine, pointLine, openLine, closingLines, resultLines, reportOf, withoutHeading, reportLines}

@@ -25,10 +25,10 @@ use Rattle.columns.specs.Decimals.{fitsIn}
 use Rattle.columns.specs.Lines.{widthOf, allFit, columnsOf, lineFits, isWide}
 use Rattle.columns.proofs.Fields.{fits-within}
 use Rattle.columns.proofs.Lines.{columns-range, fits-room, height-fits}
-use Rattle.book.specs.Standing.{Standing, isShut}
-use Rattle.book.specs.Rules.{close-line, lengthLimit, closureWithin, refusal, taken}
+use Rattle.rules.specs.Standing.{Standing, isShut}
+use Rattle.rules.specs.Rules.{close-line, lengthLimit, closureWithin, refusal, taken}
 use Rattle.ledger.specs.Plain.{Reading, freshReading, after, figuresOf, standing}
-use Rattle.book.proofs.Tables.{fails}
+use Rattle.rules.proofs.Tables.{fails}
 use Rattle.ledger.proofs.Runs.{narrow}
 use Rattle.ledger.proofs.Whole.{Kept, calls-kept}
 use Rattle.ledger.proofs.Every.{every-list}

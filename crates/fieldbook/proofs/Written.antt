@@ -22,8 +22,8 @@ use Rattle.columns.proofs.Put.{length-putAt, put-none, put-after, placed-room}
 use Rattle.columns.proofs.Lines.{length-line, length-title}
 use Rattle.columns.proofs.Lists.{drop-next}
 use Rattle.columns.proofs.Texts.{joined-append}
-use Rattle.book.specs.declared.Book.{Book}
-use Rattle.book.specs.Standing.{isClosed}
+use Rattle.rules.specs.declared.Book.{Book}
+use Rattle.rules.specs.Standing.{isClosed}
 use Rattle.book.specs.Calls.{figuresOf}
 use Rattle.textbook.specs.declared.reading.State.{State}
 use Rattle.textbook.specs.Text.{Refusal, refusalsFrom}

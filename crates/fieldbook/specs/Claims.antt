@@ -3,8 +3,8 @@ use mathlib.Core.Path.{_≡_}
 use mathlib.Core.List.{List, [], _∷_, _++_, map}
 use Prim.Native.Nat.{ℕ}
 use Rattle.adjust.specs.Line.{Closing}
-use Rattle.book.specs.declared.Stage.the-variants.{Closed}
-use Rattle.book.specs.declared.Book.{Book}
+use Rattle.rules.specs.declared.Stage.the-variants.{Closed}
+use Rattle.rules.specs.declared.Book.{Book}
 use Rattle.ledger.specs.Plain.{freshReading, closings}
 use Rattle.ledger.specs.Claims.{ClosedOnce}
 use Rattle.ledger.specs.Trace.{FreshEnsures, Trace}

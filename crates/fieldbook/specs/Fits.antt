@@ -10,8 +10,8 @@ use Rattle.adjust.specs.declared.Point.{Point}
 use Rattle.adjust.specs.declared.Summary.{Summary}
 use Rattle.columns.specs.Lines.{lineFits, isWide}
 use Rattle.columns.specs.Texts.{lines}
-use Rattle.book.specs.declared.Stage.the-variants.{Closed}
-use Rattle.book.specs.Rules.{Call}
+use Rattle.rules.specs.declared.Stage.the-variants.{Closed}
+use Rattle.rules.specs.Rules.{Call}
 use Rattle.ledger.specs.Plain.{freshReading, after, figuresOf}
 use Rattle.fieldbook.specs.Report.{closedNumbers, pointNumbers, reportLines, report}
 

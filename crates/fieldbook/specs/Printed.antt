@@ -10,8 +10,8 @@ use Rattle.adjust.specs.declared.Point.{Point}
 use Rattle.adjust.specs.declared.Adjusted.{Adjusted}
 use Rattle.adjust.specs.Line.{Closing}
 use Rattle.columns.specs.Lines.{title}
-use Rattle.book.specs.declared.Book.{Book}
-use Rattle.book.specs.Standing.{isClosed}
+use Rattle.rules.specs.declared.Book.{Book}
+use Rattle.rules.specs.Standing.{isClosed}
 use Rattle.book.specs.Calls.{figuresOf}
 use Rattle.textbook.specs.declared.reading.State.{State}
 use Rattle.textbook.specs.Text.{refusalsFrom}

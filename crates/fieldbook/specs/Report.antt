@@ -14,7 +14,7 @@ use Rattle.columns.specs.Buffers.{putAt}
 use Rattle.columns.specs.Decimals.{same}
 use Rattle.columns.specs.Lines.{tagLine, isWide, heading, title}
 use Rattle.columns.specs.Texts.{lines, joined}
-use Rattle.book.specs.Standing.{isClosed}
+use Rattle.rules.specs.Standing.{isClosed}
 use Rattle.ledger.specs.Plain.{Reading, freshReading, figuresOf}
 use Rattle.fieldbook.specs.declared.Reduced.{Reduced}
 use Rattle.fieldbook.specs.declared.Reduced.the-variants.{Written, Refused}

@@ -12,12 +12,12 @@ ghost use Rattle.fieldbook.specs.Printed.{refusalBytes, refusalLines, cl
 use adjust::Adjusted;
 use adjust::Point;
 use adjust::Summary;
-use book::Book;
 use book::calls::figures_of;
-use book::state::is_closed;
 use columns::writer::is_wide;
 use columns::writer::put_line;
 use columns::writer::put_title;
+use rules::Book;
+use rules::state::is_closed;
 use textbook::reading::State;
 
 // The refusal of a line, where there is one: the index after it.

@@ -7,10 +7,10 @@ use lib.ListN.{length}
 use Rattle.adjust.specs.Sections.{sectionsOf}
 use Rattle.adjust.specs.Frames.{figuresFit, adjustedOf, nothing, adjustedIfFit}
 use Rattle.adjust.proofs.Holding.{sections-holding, holding-none}
-use Rattle.book.specs.declared.Stage.{Stage}
-use Rattle.book.specs.declared.Stage.the-variants.{Closed}
-use Rattle.book.specs.declared.Book.{Book}
-use Rattle.book.specs.Standing.{standingOf, bookWith, isClosed}
+use Rattle.rules.specs.declared.Stage.{Stage}
+use Rattle.rules.specs.declared.Stage.the-variants.{Closed}
+use Rattle.rules.specs.declared.Book.{Book}
+use Rattle.rules.specs.Standing.{standingOf, bookWith, isClosed}
 use Rattle.book.specs.Calls.{freshBook, figuresOf}
 use Rattle.ledger.specs.Plain as Plain
 use Rattle.ledger.specs.Plain.{Reading, freshReading, standing}

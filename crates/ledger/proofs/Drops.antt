@@ -5,10 +5,10 @@ use mathlib.Core.List.{List, [], _∷_, _++_}
 use mathlib.Core.Option.{Option, none}
 use Prim.Native.Nat.{ℕ}
 use lib.Dec.{eqb}
-use Rattle.book.specs.declared.Stage.{Stage}
-use Rattle.book.specs.declared.Stage.the-variants.{Open}
-use Rattle.book.specs.Standing.{isOpen}
-use Rattle.book.specs.Rules.{Call, drop-run, drop-section}
+use Rattle.rules.specs.declared.Stage.{Stage}
+use Rattle.rules.specs.declared.Stage.the-variants.{Open}
+use Rattle.rules.specs.Standing.{isOpen}
+use Rattle.rules.specs.Rules.{Call, drop-run, drop-section}
 use Rattle.ledger.specs.Plain.{Reading, Levelled, Awaited, after, next, taken, refusal, withLists}
 use Rattle.ledger.specs.Claims.{RunDropped, SectionDropped}
 

@@ -1,11 +1,12 @@
 -- Every list of calls: a line that it leaves closed was closed once and soundly; and its refused calls can be struck out.
 use mathlib.Core.Path.{_≡_, refl, sym, ap, subst, _∙_}
-use mathlib.Core.Bool.{Bool, true, false, cond}
+use mathlib.Core.Bool.{Bool, true, false, not, cond, _||_}
 use mathlib.Core.List.{List, [], _∷_, _++_}
 use mathlib.Core.Option.{Option, none, some}
 use lib.Dec.{eqb, eqb→eq}
 use lib.IntN.{ℤ, pos, +ℤ-idl}
 use lib.Signed.{_≤ℤ_}
+use Rattle.numbers.specs.Whole.{anyOf}
 use Rattle.numbers.proofs.Tests.{by-test, holds}
 use Rattle.numbers.proofs.Tables.{met}
 use Rattle.numbers.proofs.Ring.{one-mulℤ}
@@ -13,10 +14,10 @@ use Rattle.station.specs.declared.Order.{Order}
 use Rattle.station.specs.declared.Order.the-variants.{Third, Fourth}
 use Rattle.adjust.specs.Line.{Closing, closing, lineLength}
 use Rattle.adjust.proofs.Lines.{line-sound}
-use Rattle.book.specs.declared.Stage.the-variants.{Closed}
-use Rattle.book.specs.Standing.{Standing}
-use Rattle.book.specs.Rules.{Call, open-line, station, end-run, drop-run, drop-section, close-line, inputTests}
-use Rattle.ledger.specs.Plain.{Reading, Awaited, freshReading, after, next, taken, refusal, standing, runEnded, figuresOf, given, closings}
+use Rattle.rules.specs.declared.Stage.the-variants.{Closed}
+use Rattle.rules.specs.Standing.{Standing}
+use Rattle.rules.specs.Rules.{Call, open-line, station, end-run, drop-run, drop-section, close-line, inputTests}
+use Rattle.ledger.specs.Plain.{Reading, Awaited, freshReading, after, next, taken, refusal, standing, runEnded, refusals, figuresOf, given, closings}
 use Rattle.ledger.specs.Claims.{SoundClosing, EveryList, takenOnly, StruckOut}
 use Rattle.ledger.proofs.Follows.{recast}
 use Rattle.ledger.proofs.Whole.{open-not-closed, fresh-not-closed, closed-long}
@@ -206,3 +207,15 @@ same-taken (c ∷ cs) r = go (same-taken cs) (eqb (refusal r c) 0) refl
 
 pub struck-out : StruckOut
 struck-out calls = same-taken calls freshReading
+
+-- and each call that is left is taken
+pub all-taken : (cs : List Call) (r : Reading) → anyOf (λ n. not (eqb n 0)) (refusals r (takenOnly r cs)) ≡ false
+all-taken [] r = refl
+all-taken (c ∷ cs) r = go (all-taken cs) (eqb (refusal r c) 0) refl
+  where
+    go : ((s : Reading) → anyOf (λ n. not (eqb n 0)) (refusals s (takenOnly s cs)) ≡ false) → (b : Bool) → eqb (refusal r c) 0 ≡ b
+        → anyOf (λ n. not (eqb n 0)) (refusals r (cond b (c ∷ []) [] ++ takenOnly (cond b (taken r c) r) cs)) ≡ false
+    go g true e =
+        let xs : List Call = takenOnly (taken r c) cs in
+        subst (λ (t : Bool). not t || anyOf (λ n. not (eqb n 0)) (refusals (cond t (taken r c) r) xs) ≡ false) (sym e) (g (taken r c))
+    go g false e = g r

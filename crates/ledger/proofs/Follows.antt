@@ -9,10 +9,10 @@ use Rattle.station.specs.declared.Order.{Order}
 use Rattle.station.specs.declared.Order.the-variants.{Third, Fourth}
 use Rattle.station.specs.Station.{Station, stationOf, figuresOf, sights, sightDifference, twiceHeight}
 use Rattle.adjust.specs.declared.Section.{Section}
-use Rattle.book.specs.declared.Waiting.the-variants.{Nothing}
-use Rattle.book.specs.Standing.{Standing, noRun, withStation}
-use Rattle.book.specs.Rules as Rules
-use Rattle.book.specs.Rules.{Call, open-line, station, end-run, drop-run, drop-section, close-line, withRuns, withSection}
+use Rattle.rules.specs.declared.Waiting.the-variants.{Nothing}
+use Rattle.rules.specs.Standing.{Standing, noRun, withStation}
+use Rattle.rules.specs.Rules as Rules
+use Rattle.rules.specs.Rules.{Call, open-line, station, end-run, drop-run, drop-section, close-line, withRuns, withSection}
 use Rattle.ledger.specs.Plain as Plain
 use Rattle.ledger.specs.Plain.{Reading, Levelled, Awaited, runOf, sectionOf, standing, withLists}
 

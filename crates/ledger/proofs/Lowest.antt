@@ -4,9 +4,9 @@ use mathlib.Core.List.{_++_}
 use lib.IntN.{ℤ}
 use Rattle.numbers.specs.Tables.{Lowest}
 use Rattle.numbers.proofs.Tables.{first-lowest}
-use Rattle.book.specs.Standing.{Standing}
-use Rattle.book.specs.Rules.{Call, end-run, inputTests, stateTests, refusal, bookRefusal, before30}
-use Rattle.book.proofs.Tables.{tests, bookTests, tables}
+use Rattle.rules.specs.Standing.{Standing}
+use Rattle.rules.specs.Rules.{Call, end-run, inputTests, stateTests, refusal, bookRefusal, before30}
+use Rattle.rules.proofs.Tables.{tests, bookTests, tables}
 use Rattle.ledger.specs.Claims.{LowestGiven}
 
 pub lowest : (v : Standing) (c : Call) → Lowest before30 (inputTests c ++ stateTests v c) (refusal v c)

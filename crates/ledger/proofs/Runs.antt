@@ -28,10 +28,10 @@ use Rattle.station.specs.Station.{Staff, Station, stationOf, figuresOf, limitsO
 use Rattle.station.proofs.Sizes.{read}
 use Rattle.adjust.specs.declared.Section.{Section}
 use Rattle.adjust.specs.Sections.{sectionFits}
-use Rattle.book.specs.declared.Run.{Run}
-use Rattle.book.specs.Standing.{Standing, noRun, withStation, oneWay, bothWays, runFits}
-use Rattle.book.specs.Rules.{station, stateTests, discrepancyWithin, refusal}
-use Rattle.book.proofs.Tables.{fails}
+use Rattle.rules.specs.declared.Run.{Run}
+use Rattle.rules.specs.Standing.{Standing, noRun, withStation, oneWay, bothWays, runFits}
+use Rattle.rules.specs.Rules.{station, stateTests, discrepancyWithin, refusal}
+use Rattle.rules.proofs.Tables.{fails}
 
 pub record Sized (u : Run) : Type 0 where
   pub count : u .count ≤ 200

@@ -21,15 +21,15 @@ use Rattle.adjust.specs.Line.{Frame, pointsAfter, points, frameOf, Closing, clo
 use Rattle.adjust.specs.Frames.{noPoint, adjustedOf}
 use Rattle.adjust.specs.Call.{numberOf}
 use Rattle.adjust.proofs.Holding.{sections-holding, holding-again}
-use Rattle.book.specs.declared.Book.{Book}
+use Rattle.rules.specs.declared.Book.{Book}
 use Rattle.book.specs.declared.Change.{Change}
 use Rattle.book.specs.declared.Outcome.{Outcome}
 use Rattle.book.specs.declared.CloseAnswer.the-variants.{Closed, NotClosed}
 use Rattle.book.specs.declared.CloseOutcome.{CloseOutcome}
-use Rattle.book.specs.Standing.{Standing, standingOf, bookWith}
-use Rattle.book.specs.Rules.{Call, open-line, station, end-run, drop-run, drop-section, close-line, bookRefusal}
-use Rattle.book.specs.Rules as Rules
-use Rattle.book.proofs.Tables.{tests, tables}
+use Rattle.rules.specs.Standing.{Standing, standingOf, bookWith}
+use Rattle.rules.specs.Rules.{Call, open-line, station, end-run, drop-run, drop-section, close-line, bookRefusal}
+use Rattle.rules.specs.Rules as Rules
+use Rattle.rules.proofs.Tables.{tests, tables}
 use Rattle.book.specs.Changes.{Makes}
 use Rattle.book.specs.Calls.{freshBook, bookAfter, outcome, Answers, closingOf, closeNumber, closeValues, closeOutcome, gaveOf, figuresOf}
 use Rattle.book.proofs.Joined.{answers-as}
@@ -40,7 +40,7 @@ use Rattle.ledger.specs.Claims.{ClosedOnce, takenOnly}
 use Rattle.ledger.specs.Trace.{Ensures, ChangeEnsures, MadeEnsures, FiguresEnsures, isClosing, closingIn, hadOf, Trace, done, call, close, made, made-closed, EveryTrace, EveryListMade, StruckOutOfBook}
 use Rattle.ledger.proofs.Follows.{follows}
 use Rattle.ledger.proofs.Whole.{Kept, next-kept, fresh-kept, calls-kept, same-refusal, no-shorter}
-use Rattle.ledger.proofs.Every.{every-list, same-figures, either, none-given, struck-out}
+use Rattle.ledger.proofs.Every.{every-list, same-figures, either, none-given, struck-out, all-taken}
 use Rattle.ledger.proofs.Again.{bookOf, holds-standing, fresh-holds, figures-again}
 
 -- ---- one call
@@ -291,4 +291,5 @@ struck-out-of-book b c d e calls ms ns fs gs f t g u =
     let x = every-trace b d (takenOnly freshReading calls) ms fs f t in
     let y = every-trace c e calls ns gs g u in
     let same = struck-out calls in
-    (x .book ∙ ap bookOf (same .0) ∙ sym (y .book), x .given ∙ same .1 ∙ sym (y .given))
+    let none = ap (anyOf (λ n. not (eqb n 0))) (x .numbers) ∙ all-taken calls freshReading in
+    (none, (x .book ∙ ap bookOf (same .0) ∙ sym (y .book), x .given ∙ same .1 ∙ sym (y .given)))

@@ -20,15 +20,15 @@ use Rattle.adjust.specs.Sections.{sectionFits, heightInRange}
 use Rattle.adjust.specs.Line.{lineLength}
 use Rattle.adjust.proofs.Lists.{fitted-legs}
 use Rattle.adjust.proofs.Sized.{long}
-use Rattle.book.specs.declared.Stage.{Stage}
-use Rattle.book.specs.declared.Stage.the-variants.{Fresh, Open, Closed}
-use Rattle.book.specs.declared.Run.{Run}
-use Rattle.book.specs.declared.Line.{Line}
-use Rattle.book.specs.declared.Waiting.{Waiting}
-use Rattle.book.specs.declared.Waiting.the-variants.{Nothing, Outward}
-use Rattle.book.specs.Standing.{Standing, isFresh, isOpen, isShut, isEmpty, isReturn, outwardOrReturn, noRun, oneWay, bothWays, twoWay, waitingBroken, misplaced, broken}
-use Rattle.book.specs.Rules.{Call, open-line, station, end-run, drop-run, drop-section, close-line, inputTests, stateTests, refusal, bookRefusal, numberInRange, discrepancyWithin, withRuns, withSection, runEnded, taken}
-use Rattle.book.proofs.Tables.{fails}
+use Rattle.rules.specs.declared.Stage.{Stage}
+use Rattle.rules.specs.declared.Stage.the-variants.{Fresh, Open, Closed}
+use Rattle.rules.specs.declared.Run.{Run}
+use Rattle.rules.specs.declared.Line.{Line}
+use Rattle.rules.specs.declared.Waiting.{Waiting}
+use Rattle.rules.specs.declared.Waiting.the-variants.{Nothing, Outward}
+use Rattle.rules.specs.Standing.{Standing, isFresh, isOpen, isShut, isEmpty, isReturn, outwardOrReturn, noRun, oneWay, bothWays, twoWay, waitingBroken, misplaced, broken}
+use Rattle.rules.specs.Rules.{Call, open-line, station, end-run, drop-run, drop-section, close-line, inputTests, stateTests, refusal, bookRefusal, numberInRange, discrepancyWithin, withRuns, withSection, runEnded, taken}
+use Rattle.rules.proofs.Tables.{fails}
 use Rattle.ledger.specs.Plain as Plain
 use Rattle.ledger.specs.Plain.{Reading, freshReading, after, next, standing}
 use Rattle.ledger.proofs.Follows.{follows}

@@ -11,9 +11,9 @@ use Rattle.numbers.specs.Tables.{Lowest}
 use Rattle.adjust.specs.declared.Point.{Point}
 use Rattle.adjust.specs.Line.{frameOf, Closing, closing}
 use Rattle.adjust.specs.Claims.{Near, corrections, lastHeight}
-use Rattle.book.specs.declared.Stage.the-variants.{Open, Closed}
-use Rattle.book.specs.Standing.{Standing, broken}
-use Rattle.book.specs.Rules.{Call, drop-run, drop-section, close-line, inputTests, stateTests, bookRefusal, before30}
+use Rattle.rules.specs.declared.Stage.the-variants.{Open, Closed}
+use Rattle.rules.specs.Standing.{Standing, broken}
+use Rattle.rules.specs.Rules.{Call, drop-run, drop-section, close-line, inputTests, stateTests, bookRefusal, before30}
 use Rattle.ledger.specs.Plain.{Reading, freshReading, after, next, taken, refusal, standing, withLists, closings}
 
 -- ---- a closing

@@ -16,14 +16,14 @@ use Rattle.station.specs.Station.{Station, stationOf, sights, sightDifference, 
 use Rattle.adjust.specs.declared.Benchmark.{Benchmark}
 use Rattle.adjust.specs.declared.Section.{Section}
 use Rattle.adjust.specs.Line.{Closing, closing}
-use Rattle.book.specs.declared.Stage.{Stage}
-use Rattle.book.specs.declared.Stage.the-variants.{Fresh, Open, Closed}
-use Rattle.book.specs.declared.Run.{Run}
-use Rattle.book.specs.declared.Waiting.{Waiting}
-use Rattle.book.specs.declared.Waiting.the-variants.{Nothing, Outward}
-use Rattle.book.specs.Standing.{Standing, oneWay, bothWays, twoWay}
-use Rattle.book.specs.Rules as Rules
-use Rattle.book.specs.Rules.{Call, open-line, station, end-run, drop-run, drop-section, close-line, orderOf, instrumentOf}
+use Rattle.rules.specs.declared.Stage.{Stage}
+use Rattle.rules.specs.declared.Stage.the-variants.{Fresh, Open, Closed}
+use Rattle.rules.specs.declared.Run.{Run}
+use Rattle.rules.specs.declared.Waiting.{Waiting}
+use Rattle.rules.specs.declared.Waiting.the-variants.{Nothing, Outward}
+use Rattle.rules.specs.Standing.{Standing, oneWay, bothWays, twoWay}
+use Rattle.rules.specs.Rules as Rules
+use Rattle.rules.specs.Rules.{Call, open-line, station, end-run, drop-run, drop-section, close-line, orderOf, instrumentOf}
 
 -- a finished section: its number, its outward list and, where it was levelled both ways, its return list
 pub record Levelled : Type 0 where

@@ -1,7 +1,7 @@
 -- A book's calls as a caller makes them: from a fresh book, each on the book that the call before it left, in one step (`calls`) or as a change that is then
 -- made (`changes`). Of each no more is known than its function's contract ensures. `Learnt` is that contract, read from the function itself.
 use mathlib.Core.Path.{_≡_}
-use mathlib.Core.Bool.{Bool, true, false, cond}
+use mathlib.Core.Bool.{Bool, true, false, not, cond}
 use mathlib.Core.List.{List, [], _∷_, _++_}
 use Prim.Native.Nat.{ℕ, _+_}
 use lib.Dec.{eqb}
@@ -12,13 +12,13 @@ use Rattle.adjust.specs.declared.Adjusted.{Adjusted}
 use Rattle.adjust.specs.Line.{Closing}
 use Rattle.adjust.specs.Frames.{adjustedOf}
 use Rattle.adjust.specs.Call.{numberOf}
-use Rattle.book.specs.declared.Stage.the-variants.{Closed}
-use Rattle.book.specs.declared.Book.{Book}
+use Rattle.rules.specs.declared.Stage.the-variants.{Closed}
+use Rattle.rules.specs.declared.Book.{Book}
 use Rattle.book.specs.declared.Change.{Change}
 use Rattle.book.specs.declared.Outcome.{Outcome}
 use Rattle.book.specs.declared.CloseOutcome.{CloseOutcome}
-use Rattle.book.specs.Standing.{standingOf, bookWith}
-use Rattle.book.specs.Rules.{Call, open-line, station, end-run, drop-run, drop-section, close-line}
+use Rattle.rules.specs.Standing.{standingOf, bookWith}
+use Rattle.rules.specs.Rules.{Call, open-line, station, end-run, drop-run, drop-section, close-line}
 use Rattle.book.specs.Calls.{freshBook, closeNumber, gaveOf}
 use Rattle.book.proofs.fresh.Reads as fresh-reads
 use Rattle.book.proofs.calls.«open».Reads as open-reads
@@ -122,10 +122,10 @@ EveryTrace = (b e : Book) (calls : List Call) (ns : List ℕ) (gs : List Closing
 abbrev pub EveryListMade : Type 0
 EveryListMade = ((b : Book) × FreshEnsures b) × ((b : Book) (calls : List Call) → (ns : List ℕ) × ((gs : List Closing) × ((e : Book) × Trace b calls ns gs e)))
 
--- a list without its refused calls leaves the same book, and its closings give the same
+-- a list without its refused calls is taken whole, leaves the same book, and its closings give the same
 abbrev pub StruckOutOfBook : Type 0
 StruckOutOfBook =
     (b c d e : Book) (calls : List Call) (ms ns : List ℕ) (fs gs : List Closing)
     → FreshEnsures b → Trace b (takenOnly freshReading calls) ms fs d
     → FreshEnsures c → Trace c calls ns gs e
-    → (d ≡ e) × (fs ≡ gs)
+    → (anyOf (λ n. not (eqb n 0)) ms ≡ false) × ((d ≡ e) × (fs ≡ gs))

@@ -1,6 +1,6 @@
 -- The starred lines of document 01, 'Checked by hand', as one fact that the rules compute.
 use mathlib.Core.Path.{_≡_, refl}
-use mathlib.Core.List.{List, [], _∷_, map}
+use mathlib.Core.List.{List, [], _∷_, _++_, map}
 use Prim.Native.Nat.{ℕ}
 use lib.IntN.{ℤ, pos, negℤ, _*ℤ_}
 use Rattle.roots.specs.Round.{roundEven}
@@ -9,8 +9,8 @@ use Rattle.station.specs.Station.{Station, stationOf, sightDifference, faceDiff
 use Rattle.adjust.specs.declared.Section.{Section}
 use Rattle.adjust.specs.declared.Point.{Point}
 use Rattle.adjust.specs.Line.{Frame, frameOf, exactTop, closure, Closing, accidental}
-use Rattle.book.specs.Standing.{bothWays}
-use Rattle.book.specs.Rules.{Call, open-line, station, end-run, close-line}
+use Rattle.rules.specs.Standing.{Standing, outwardOrReturn, bothWays}
+use Rattle.rules.specs.Rules.{Call, open-line, station, end-run, close-line}
 use Rattle.ledger.specs.Plain.{freshReading, after, refusals, standing, runOf, closings}
 
 -- ---- the stations of case A
@@ -56,9 +56,6 @@ s1 = stationOf (pos 4787) (pos 4687) readings1
 abbrev s2 : Station
 s2 = stationOf (pos 4687) (pos 4787) readings2
 
-abbrev b1 : Station
-b1 = stationOf (pos 4687) (pos 4787) backReadings1
-
 -- A's section 1 alone, and A's section 2 twice, between two heights
 abbrev one : ℕ → ℕ → List Call
 one start end = open4 start ∷ a1 ∷ a2 ∷ end-run (pos 2) ∷ close-line (pos 2) (pos end) ∷ []
@@ -66,15 +63,20 @@ one start end = open4 start ∷ a1 ∷ a2 ∷ end-run (pos 2) ∷ close-line (po
 abbrev two : ℕ → ℕ → List Call
 two start end = open4 start ∷ a3 ∷ a4 ∷ end-run (pos 2) ∷ a3 ∷ a4 ∷ end-run (pos 3) ∷ close-line (pos 3) (pos end) ∷ []
 
--- A's section 1 at third order, out and back
-abbrev outAndBack : ℕ → List Call
-outAndBack red =
+-- A's section 1 at third order, out and back, before its end and with it
+abbrev goneBack : ℕ → List Call
+goneBack red =
     open-line (pos 3) (pos 3) (pos 1) (pos 10000) ∷ a1 ∷ a2 ∷ end-run (pos 2)
-    ∷ station (pos 4687) (pos 4787) backReadings1 ∷ station (pos 4787) (pos 4687) (backReadings2 red) ∷ end-run (pos 1) ∷ []
+    ∷ station (pos 4687) (pos 4787) backReadings1 ∷ station (pos 4787) (pos 4687) (backReadings2 red) ∷ []
 
--- the section that the two runs make, whether the end of its return is taken or refused
-abbrev returned : ℕ → Section
-returned red = bothWays (pos 2) (runOf (s1 ∷ s2 ∷ [])) (runOf (b1 ∷ stationOf (pos 4787) (pos 4687) (backReadings2 red) ∷ []))
+abbrev outAndBack : ℕ → List Call
+outAndBack red = goneBack red ++ (end-run (pos 1) ∷ [])
+
+-- the section that the end of the return is judged by: of what waits and the present run
+abbrev returned : ℕ → List Section
+returned red =
+    let v : Standing = standing (after freshReading (goneBack red)) in
+    outwardOrReturn (v .line .waiting) [] (λ number run. bothWays number run (v .line .present) ∷ [])
 
 abbrev twoFrame : ℕ → ℕ → Frame
 twoFrame start end = frameOf (pos start) (pos end) (standing (after freshReading (two start end)) .sections)
@@ -106,9 +108,9 @@ pub record Starred : Type 0 where
   pub w32 : closure (pos 10000) (pos 10650) (standing (after freshReading (one 10000 10650)) .sections) ≡ pos 32
   pub w32-refused : refusals freshReading (one 10000 10650) ≡ 0 ∷ 0 ∷ 0 ∷ 0 ∷ 36 ∷ []
   -- R 2564: the end of a return with D 8 is taken, with D 9 refused
-  pub d8 : returned 6067 ≡ section 2 2624 2564 8
+  pub d8 : returned 6067 ≡ section 2 2624 2564 8 ∷ []
   pub d8-taken : refusals freshReading (outAndBack 6067) ≡ 0 ∷ 0 ∷ 0 ∷ 0 ∷ 0 ∷ 0 ∷ 0 ∷ []
-  pub d9 : returned 6066 ≡ section 2 2623 2564 9
+  pub d9 : returned 6066 ≡ section 2 2623 2564 9 ∷ []
   pub d9-refused : refusals freshReading (outAndBack 6066) ≡ 0 ∷ 0 ∷ 0 ∷ 0 ∷ 0 ∷ 0 ∷ 32 ∷ []
   pub t : accidental (section 2 0 20000 24) ≡ pos 14400
   -- A's section 2 twice: the middle is 21099 / 2 and 21101 / 2, at Q 2200 and R 1600

@@ -9,7 +9,7 @@ use lib.ListN.{length, getD, set, take, drop, length-append}
 use lib.Seq.{drop-cons}
 use lib.IntN.{ℤ, pos}
 use Rattle.numbers.specs.Whole.{eqZ}
-use Rattle.book.specs.Rules.{Call, end-run, drop-run, drop-section}
+use Rattle.rules.specs.Rules.{Call, end-run, drop-run, drop-section}
 use Rattle.ledger.specs.Plain.{Reading, freshReading, after, refusal, refusals, next}
 use Rattle.ledger.proofs.Drops.{after-append}
 use Rattle.ledger.proofs.Whole.{calls-kept}

@@ -15,9 +15,9 @@ use Rattle.adjust.specs.Sections.{sectionsOf, holding}
 use Rattle.adjust.specs.Line.{closing}
 use Rattle.adjust.specs.Frames.{noPoint, figuresFit, adjustedOf, nothing, adjustedIfFit}
 use Rattle.adjust.proofs.Lists.{from-length}
-use Rattle.book.specs.declared.Book.{Book}
-use Rattle.book.specs.Standing.{isClosed}
-use Rattle.book.specs.Rules.{Call}
+use Rattle.rules.specs.declared.Book.{Book}
+use Rattle.rules.specs.Standing.{isClosed}
+use Rattle.rules.specs.Rules.{Call}
 use Rattle.book.specs.Calls.{figuresOf}
 use Rattle.ledger.specs.Plain.{freshReading, after}
 use Rattle.ledger.proofs.Whole.{calls-kept}

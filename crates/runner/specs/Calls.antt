@@ -9,9 +9,9 @@ use lib.ListN.{length, getD, take, drop}
 use lib.IntN.{ℤ, pos, negsuc}
 use Rattle.numbers.specs.Whole.{eqZ}
 use Rattle.adjust.specs.Sections.{over}
-use Rattle.book.specs.declared.Book.{Book}
-use Rattle.book.specs.Standing.{standingOf}
-use Rattle.book.specs.Rules.{Call, open-line, station, end-run, drop-run, drop-section, close-line, bookRefusal}
+use Rattle.rules.specs.declared.Book.{Book}
+use Rattle.rules.specs.Standing.{standingOf}
+use Rattle.rules.specs.Rules.{Call, open-line, station, end-run, drop-run, drop-section, close-line, bookRefusal}
 use Rattle.book.specs.Calls.{bookAfter}
 use Rattle.runner.specs.declared.Step.{Step}
 

@@ -7,9 +7,9 @@ use lib.IntN.{ℤ}
 use Rattle.numbers.specs.Whole.{filled}
 use Rattle.adjust.specs.Line.{Closing}
 use Rattle.adjust.specs.Frames.{noPoint}
-use Rattle.book.specs.declared.Stage.the-variants.{Closed}
-use Rattle.book.specs.declared.Book.{Book}
-use Rattle.book.specs.Standing.{Standing, bookWith}
+use Rattle.rules.specs.declared.Stage.the-variants.{Closed}
+use Rattle.rules.specs.declared.Book.{Book}
+use Rattle.rules.specs.Standing.{Standing, bookWith}
 use Rattle.book.specs.Calls.{freshBook}
 use Rattle.ledger.specs.Plain.{freshReading, after, refusals, standing, closings}
 use Rattle.ledger.specs.Claims.{ClosedOnce}

@@ -4,8 +4,8 @@ use Prim.Native.Nat.{ℕ}
 use lib.IntN.{ℤ, pos}
 use Rattle.adjust.specs.declared.Point.{Point}
 use Rattle.adjust.specs.declared.Summary.{Summary}
-use Rattle.book.specs.declared.Run.{Run}
-use Rattle.book.specs.declared.Book.{Book}
+use Rattle.rules.specs.declared.Run.{Run}
+use Rattle.rules.specs.declared.Book.{Book}
 use Rattle.book.specs.Calls.{figuresOf}
 
 -- W, L, n, T and the verdict; the present run's count, G, s and sum of d; the number of sections

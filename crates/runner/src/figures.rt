@@ -8,9 +8,9 @@ ghost use Rattle.runner.specs.Calls.{written};
 ghost use Rattle.runner.specs.Figures.{headFigures, pointFigures, bookFigures};
 use adjust::Point;
 use adjust::Summary;
-use book::Book;
-use book::Run;
 use book::calls;
+use rules::Book;
+use rules::Run;
 
 fn head_of(s: Summary, run: Run, sections: usize) -> [i64; 10]
     requires { ⌜ (s .count ≤ 64) × (run .count ≤ 200) × (sections ≤ 64) ⌝ }

@@ -16,7 +16,7 @@ use Rattle.columns.specs.Lines.{heading}
 use Rattle.columns.specs.Records.{lineIn}
 use Rattle.columns.specs.Texts.{lines}
 use Rattle.columns.proofs.Texts.{lines-next, lines-end}
-use Rattle.book.specs.declared.Book.{Book}
+use Rattle.rules.specs.declared.Book.{Book}
 use Rattle.book.specs.Calls.{freshBook}
 use Rattle.ledger.specs.Plain.{Reading, freshReading, standing}
 use Rattle.ledger.proofs.Whole.{Kept, next-kept, fresh-kept}

@@ -11,7 +11,7 @@ use Rattle.columns.specs.declared.reader.Line.{Line}
 use Rattle.columns.specs.Decimals.{same}
 use Rattle.columns.specs.Lines.{heading}
 use Rattle.columns.specs.Records.{lineIn}
-use Rattle.book.specs.declared.Book.{Book}
+use Rattle.rules.specs.declared.Book.{Book}
 use Rattle.book.specs.Calls.{freshBook}
 use Rattle.runner.specs.declared.Step.{Step}
 use Rattle.runner.specs.Calls.{stepOf}

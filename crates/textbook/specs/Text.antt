@@ -10,7 +10,7 @@ use Rattle.columns.specs.declared.reader.Kind.{Kind}
 use Rattle.columns.specs.declared.reader.Kind.the-variants.{Record, Refused}
 use Rattle.columns.specs.declared.reader.Line.{Line}
 use Rattle.columns.specs.Records.{lineIn}
-use Rattle.book.specs.Rules.{Call}
+use Rattle.rules.specs.Rules.{Call}
 use Rattle.ledger.specs.Plain.{Reading, next, refusal}
 use Rattle.runner.specs.Calls as Calls
 

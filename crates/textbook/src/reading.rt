@@ -6,7 +6,6 @@ ghost use lib.ListN.{set};
 ghost use Rattle.book.specs.Changes.{changed};
 ghost use Rattle.textbook.specs.Text.{kindOf};
 ghost use Rattle.textbook.specs.State.{lineStep, freshState, withHeading, stateWith, lineAt, lineCount};
-use book::Book;
 use book::Change;
 use book::changes;
 use columns::reader::Kind;
@@ -14,6 +13,7 @@ use columns::reader::Line;
 use columns::reader::Tag;
 use columns::reader::is_heading;
 use columns::reader::parse_line;
+use rules::Book;
 use runner::change_of;
 
 // What the lines read so far leave: the book, and each line's refusal number in the line's place, 0 where it was taken.

@@ -1,6 +1,6 @@
 -- `level_run` meets its contract.
 use mathlib.Core.Path.{ap, _∙_}
-use Rattle.book.specs.declared.Book.{Book}
+use Rattle.rules.specs.declared.Book.{Book}
 use Rattle.runner.specs.Calls.{callsOf, written}
 use Rattle.runner.specs.Figures.{bookFigures}
 use Rattle.runner.proofs.Lists.{counts}

@@ -6,8 +6,8 @@ use mathlib.Core.List.{List}
 use mathlib.Core.Logic.{⊎-elim}
 use lib.ListN.{length, set}
 use borrow.Author.Needs.{needs}
-use Rattle.book.specs.declared.Book.{Book}
-use Rattle.book.specs.Rules.{Call}
+use Rattle.rules.specs.declared.Book.{Book}
+use Rattle.rules.specs.Rules.{Call}
 use Rattle.ledger.specs.Plain.{freshReading, after, refusals}
 use Rattle.ledger.proofs.Again.{bookOf, fresh-holds}
 use Rattle.runner.specs.declared.Step.{Step}

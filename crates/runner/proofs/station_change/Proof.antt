@@ -3,7 +3,7 @@ use mathlib.Core.List.{[], _∷_}
 use mir.Syntax.{w64}
 use mir.Val.{SFits}
 use Rattle.numbers.proofs.Machine.{stored-id}
-use Rattle.book.specs.Rules.{station}
+use Rattle.rules.specs.Rules.{station}
 use Rattle.book.proofs.Joined.{makes-as}
 use Rattle.runner.specs.Calls.{argument}
 use borrow.Author.Needs.{needs}

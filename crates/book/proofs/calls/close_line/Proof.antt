@@ -8,10 +8,10 @@ use Rattle.numbers.proofs.Machine.{stored-id}
 use Rattle.adjust.specs.declared.Adjusted.{Adjusted}
 use Rattle.adjust.specs.Sections.{sectionsOf}
 use Rattle.adjust.specs.Frames.{noPoint, adjustedOf, adjustedIfFit}
+use Rattle.rules.specs.Standing.{standingOf}
+use Rattle.rules.specs.Rules.{Call, close-line, bookRefusal}
 use Rattle.book.specs.declared.Change.{Change}
 use Rattle.book.specs.declared.CloseAnswer.the-variants.{Closed, NotClosed}
-use Rattle.book.specs.Standing.{standingOf}
-use Rattle.book.specs.Rules.{Call, close-line, bookRefusal}
 use Rattle.book.specs.Calls.{closingOf, closeOutcome}
 use Rattle.book.specs.Changes.{Makes}
 use Rattle.book.proofs.Joined.{close-as, makes-as, left-as-it-was}

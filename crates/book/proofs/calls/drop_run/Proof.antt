@@ -1,5 +1,5 @@
 -- `drop_run` meets its contract, by the law that joins a change and an outcome.
-use Rattle.book.specs.Rules.{drop-run}
+use Rattle.rules.specs.Rules.{drop-run}
 use Rattle.book.proofs.Joined.{plain, makes-outcome}
 use borrow.Author.Needs.{needs}
 use Rattle.book.proofs.calls.drop_run.Statement.{statement}

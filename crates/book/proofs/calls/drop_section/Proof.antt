@@ -1,5 +1,5 @@
 -- `drop_section` meets its contract, by the law that joins a change and an outcome.
-use Rattle.book.specs.Rules.{drop-section}
+use Rattle.rules.specs.Rules.{drop-section}
 use Rattle.book.proofs.Joined.{plain, makes-outcome}
 use borrow.Author.Needs.{needs}
 use Rattle.book.proofs.calls.drop_section.Statement.{statement}

@@ -7,8 +7,8 @@ use mir.Val.{SFits}
 use Rattle.numbers.proofs.Machine.{stored-id}
 use Rattle.adjust.specs.Sections.{sectionsOf}
 use Rattle.adjust.specs.Frames.{adjustedOf, nothing, adjustedIfFit}
-use Rattle.book.specs.declared.Book.{Book}
-use Rattle.book.specs.Standing.{isClosed}
+use Rattle.rules.specs.declared.Book.{Book}
+use Rattle.rules.specs.Standing.{isClosed}
 use Rattle.book.specs.Calls.{figuresOf}
 use borrow.Author.Needs.{needs}
 use Rattle.book.proofs.calls.figures_of.Statement.{statement}

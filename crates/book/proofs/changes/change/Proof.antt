@@ -5,7 +5,7 @@ use mathlib.Core.List.{[], _∷_, _++_}
 use lib.Dec.{ltb, ltb→lt}
 use Rattle.numbers.proofs.Tests.{holds, and-r}
 use Rattle.adjust.specs.Sections.{sectionsOf, holding}
-use Rattle.book.specs.declared.Book.{Book}
+use Rattle.rules.specs.declared.Book.{Book}
 use Rattle.book.proofs.changes.change.Statement.{statement}
 use Rattle.book.proofs.changes.change.Tie as tie
 

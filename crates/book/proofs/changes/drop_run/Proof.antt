@@ -1,7 +1,7 @@
 -- `drop_run` meets its contract, by the laws that join a refusal and an effect.
 use mathlib.Core.Path.{refl}
 use Rattle.adjust.proofs.Holding.{Whole}
-use Rattle.book.specs.Rules.{drop-run}
+use Rattle.rules.specs.Rules.{drop-run}
 use Rattle.book.proofs.Joined.{plain, makes-refused, makes-moved}
 use borrow.Author.Needs.{needs}
 use Rattle.book.proofs.changes.drop_run.Statement.{statement}

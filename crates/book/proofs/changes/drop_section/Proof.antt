@@ -1,8 +1,8 @@
 -- `drop_section` meets its contract, by the laws that join a refusal and an effect.
 use mathlib.Core.Path.{_≡_, refl}
 use Rattle.adjust.proofs.Holding.{Whole}
-use Rattle.book.specs.Standing.{standingOf}
-use Rattle.book.specs.Rules.{drop-section, bookRefusal}
+use Rattle.rules.specs.Standing.{standingOf}
+use Rattle.rules.specs.Rules.{drop-section, bookRefusal}
 use Rattle.book.proofs.Joined.{plain, makes-refused, makes-moved}
 use borrow.Author.Needs.{needs}
 use Rattle.book.proofs.changes.drop_section.Statement.{statement}

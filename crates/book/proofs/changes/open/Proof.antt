@@ -5,10 +5,10 @@ use Rattle.numbers.proofs.Tests.{not-false}
 use Rattle.numbers.proofs.Machine.{stored}
 use Rattle.adjust.specs.Sections.{sectionsOf}
 use Rattle.adjust.proofs.Holding.{Whole}
-use Rattle.book.specs.Standing.{standingOf, isFresh}
-use Rattle.book.specs.Rules.{Call, open-line}
-use Rattle.book.proofs.Tables.{book-fails}
-use Rattle.book.proofs.Unbroken.{fresh-none}
+use Rattle.rules.specs.Standing.{standingOf, isFresh}
+use Rattle.rules.specs.Rules.{Call, open-line}
+use Rattle.rules.proofs.Tables.{book-fails}
+use Rattle.rules.proofs.Unbroken.{fresh-none}
 use Rattle.book.proofs.Joined.{open-as, makes-refused, makes-moved}
 use borrow.Author.Needs.{needs}
 use Rattle.book.proofs.changes.open.Statement.{statement}

@@ -4,8 +4,8 @@ use mathlib.Core.Bool.{true, cond}
 use mathlib.Core.List.{[], _∷_, _++_}
 use borrow.Author.Tests.{lt-ltb}
 use Rattle.adjust.specs.Sections.{sectionsOf, holding}
-use Rattle.book.specs.declared.Waiting.the-variants.{Nothing}
-use Rattle.book.specs.Rules.{withRuns}
+use Rattle.rules.specs.declared.Waiting.the-variants.{Nothing}
+use Rattle.rules.specs.Rules.{withRuns}
 use Rattle.book.proofs.Joined.{finishes-to}
 use borrow.Author.Needs.{needs}
 use Rattle.book.proofs.effects.finished.Statement.{statement}

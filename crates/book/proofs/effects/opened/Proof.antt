@@ -2,9 +2,9 @@
 use mathlib.Core.Path.{ap, _∙_}
 use lib.IntN.{pos}
 use Rattle.numbers.proofs.Machine.{stored-id}
-use Rattle.book.specs.declared.Stage.the-variants.{Open}
-use Rattle.book.specs.declared.Waiting.the-variants.{Nothing}
-use Rattle.book.specs.Rules.{orderOf, instrumentOf}
+use Rattle.rules.specs.declared.Stage.the-variants.{Open}
+use Rattle.rules.specs.declared.Waiting.the-variants.{Nothing}
+use Rattle.rules.specs.Rules.{orderOf, instrumentOf}
 use borrow.Author.Needs.{needs}
 use Rattle.book.proofs.effects.opened.Statement.{statement}
 use Rattle.book.proofs.effects.opened.Tie as tie

@@ -9,9 +9,9 @@ use Rattle.station.specs.declared.Order.the-variants.{Third}
 use Rattle.adjust.specs.declared.Section.{Section}
 use Rattle.adjust.specs.Sections.{sectionsOf}
 use Rattle.adjust.proofs.Holding.{Whole}
-use Rattle.book.specs.declared.Waiting.the-variants.{Outward}
-use Rattle.book.specs.Standing.{Standing, standingOf, noRun, oneWay, twoWay}
-use Rattle.book.specs.Rules.{withRuns, withSection}
+use Rattle.rules.specs.declared.Waiting.the-variants.{Outward}
+use Rattle.rules.specs.Standing.{Standing, standingOf, noRun, oneWay, twoWay}
+use Rattle.rules.specs.Rules.{withRuns, withSection}
 use Rattle.book.specs.Changes.{Leaves}
 use Rattle.book.proofs.Joined.{leaves-moved}
 use borrow.Author.Needs.{needs}

@@ -1,6 +1,6 @@
 -- `run_dropped` meets its contract, by that of `with_runs`.
 use mathlib.Core.Path.{ap, _∙_}
-use Rattle.book.specs.Rules.{withRuns}
+use Rattle.rules.specs.Rules.{withRuns}
 use borrow.Author.Needs.{needs}
 use Rattle.book.proofs.effects.run_dropped.Statement.{statement}
 use Rattle.book.proofs.effects.run_dropped.Tie as tie

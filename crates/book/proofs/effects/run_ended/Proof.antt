@@ -13,14 +13,14 @@ use Rattle.numbers.proofs.Machine.{stored-id}
 use Rattle.adjust.specs.declared.Section.{Section}
 use Rattle.adjust.specs.Sections.{sectionsOf}
 use Rattle.adjust.proofs.Lists.{from-length}
-use Rattle.book.specs.declared.Waiting.{Waiting}
-use Rattle.book.specs.declared.Waiting.the-variants.{Outward}
-use Rattle.book.specs.declared.Book.{Book}
-use Rattle.book.specs.Standing.{Standing, standingOf, outwardOrReturn, isReturn, noRun, oneWay, bothWays, twoWay}
-use Rattle.book.specs.Rules.{end-run, withRuns, withSection}
+use Rattle.rules.specs.declared.Waiting.{Waiting}
+use Rattle.rules.specs.declared.Waiting.the-variants.{Outward}
+use Rattle.rules.specs.declared.Book.{Book}
+use Rattle.rules.specs.Standing.{Standing, standingOf, outwardOrReturn, isReturn, noRun, oneWay, bothWays, twoWay}
+use Rattle.rules.specs.Rules.{end-run, withRuns, withSection}
+use Rattle.rules.proofs.Tables.{book-fails}
+use Rattle.rules.proofs.Unbroken.{SmallWaiting, Unbroken, unbroken}
 use Rattle.book.specs.Changes.{Leaves}
-use Rattle.book.proofs.Tables.{book-fails}
-use Rattle.book.proofs.Unbroken.{SmallWaiting, Unbroken, unbroken}
 use borrow.Author.Needs.{needs}
 use Rattle.book.proofs.effects.run_ended.Statement.{statement}
 use Rattle.book.proofs.effects.run_ended.Tie as tie

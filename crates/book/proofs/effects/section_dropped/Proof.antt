@@ -1,7 +1,7 @@
 -- `section_dropped` meets its contract, by that of `with_runs`.
 use mathlib.Core.Path.{ap, _∙_}
-use Rattle.book.specs.declared.Waiting.the-variants.{Nothing}
-use Rattle.book.specs.Rules.{withRuns}
+use Rattle.rules.specs.declared.Waiting.the-variants.{Nothing}
+use Rattle.rules.specs.Rules.{withRuns}
 use borrow.Author.Needs.{needs}
 use Rattle.book.proofs.effects.section_dropped.Statement.{statement}
 use Rattle.book.proofs.effects.section_dropped.Tie as tie

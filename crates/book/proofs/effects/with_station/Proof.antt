@@ -4,7 +4,7 @@ use lib.IntN.{_+ℤ_}
 use Rattle.numbers.proofs.Machine.{stored, stored-id}
 use Rattle.numbers.proofs.Chain.{Value, known, add, fits, kept}
 use Rattle.station.specs.declared.Figures.{Figures}
-use Rattle.book.specs.declared.Run.{Run}
+use Rattle.rules.specs.declared.Run.{Run}
 use borrow.Author.Needs.{needs}
 use Rattle.book.proofs.effects.with_station.Statement.{statement}
 use Rattle.book.proofs.effects.with_station.Tie as tie

@@ -6,10 +6,10 @@ use Rattle.numbers.proofs.Machine.{stored-id, stored-both}
 use Rattle.station.specs.Bounds.{Small}
 use Rattle.station.specs.Station.{stationOf, figuresOf, noFigures, readingRefusal, figuresIfRead}
 use Rattle.station.proofs.Sizes.{read, figures-small}
-use Rattle.book.specs.Standing.{standingOf, withStation, broken}
-use Rattle.book.specs.Rules.{Call, station, inputTests, stateTests, bookRefusal, withRuns}
-use Rattle.book.proofs.Tables.{book-fails}
-use Rattle.book.proofs.Unbroken.{unbroken}
+use Rattle.rules.specs.Standing.{standingOf, withStation, broken}
+use Rattle.rules.specs.Rules.{Call, station, inputTests, stateTests, bookRefusal, withRuns}
+use Rattle.rules.proofs.Tables.{book-fails}
+use Rattle.rules.proofs.Unbroken.{unbroken}
 use borrow.Author.Needs.{needs}
 use Rattle.book.proofs.effects.with_taken_station.Statement.{statement}
 use Rattle.book.proofs.effects.with_taken_station.Tie as tie

@@ -8,7 +8,7 @@ use lib.ListN.{length}
 use Rattle.adjust.specs.declared.Adjusted.{Adjusted}
 use Rattle.columns.specs.Buffers.{putAt}
 use Rattle.columns.specs.Texts.{joined}
-use Rattle.book.specs.Standing.{isClosed}
+use Rattle.rules.specs.Standing.{isClosed}
 use Rattle.fieldbook.specs.Report.{closingLines}
 use Rattle.fieldbook.specs.Printed.{closingIn, bookLines, ClosingFits}
 use Rattle.fieldbook.proofs.Written.{book-closed, book-open, open-long}

@@ -3,7 +3,7 @@ use mathlib.Core.Path.{_≡_, sym, ap, _∙_}
 use mathlib.Core.Bool.{false}
 use lib.ListN.{length, set}
 use Rattle.columns.specs.Records.{lineIn}
-use Rattle.book.specs.declared.Book.{Book}
+use Rattle.rules.specs.declared.Book.{Book}
 use Rattle.book.specs.declared.Change.{Change}
 use Rattle.book.specs.Changes.{changed}
 use Rattle.textbook.specs.State.{lineStep, stateWith}

@@ -1,0 +1,56 @@
+-- The tables of the calls' tests: what their numbers satisfy, computed for every standing list at once, a line for each call; and that a call that is
+-- taken fails every test.
+use mathlib.Core.Path.{_≡_, refl, sym, _∙_}
+use mathlib.Core.Bool.{Bool, true, false, not}
+use mathlib.Core.List.{List, _∷_, _++_}
+use Prim.Native.Nat.{ℕ}
+use borrow.Author.Needs.{needs}
+use lib.Dec.{leb, eqb}
+use lib.IntN.{ℤ}
+use Rattle.numbers.proofs.Tables.{eachNumber, numbered, testOf, failed, rises}
+use Rattle.rules.specs.Standing.{Standing, broken}
+use Rattle.rules.specs.Rules.{Call, open-line, station, end-run, drop-run, drop-section, close-line, inputTests, stateTests, refusal, bookRefusal, before30}
+
+-- a call's tests, and those of a book, which also tests for 20
+abbrev pub tests : Standing → Call → List (ℕ × Bool)
+tests v c = inputTests c ++ stateTests v c
+
+abbrev pub bookTests : Standing → Call → List (ℕ × Bool)
+bookTests v c = inputTests c ++ ((20, broken v) ∷ stateTests v c)
+
+pub record Tables (v : Standing) (c : Call) : Type 0 where
+  -- no number is 0
+  pub inputs : numbered (inputTests c) ≡ true
+  pub all : numbered (tests v c) ≡ true
+  pub book : numbered (bookTests v c) ≡ true
+  -- 20 is in a book's table alone
+  pub twenty : testOf 20 (bookTests v c) ≡ broken v
+  pub no-twenty : eachNumber (λ n. not (eqb n 20)) (tests v c) ≡ true
+  pub two-digits : eachNumber (λ n. leb n 99) (tests v c) ≡ true
+  -- the numbers rise, 31 before 30
+  pub rising : rises before30 0 (tests v c) ≡ true
+  pub book-rising : rises before30 0 (bookTests v c) ≡ true
+  -- and as they stand in every call but the end of a run
+  pub number-rising : ((n : ℤ) → c ≡ end-run n → ⊥) → rises (λ n. n) 0 (tests v c) ≡ true
+
+but-end : {b : Bool} (number : ℤ) → ((n : ℤ) → end-run number ≡ end-run n → ⊥) → b ≡ true
+but-end number k = absurd (k number refl)
+
+pub tables : (v : Standing) (c : Call) → Tables v c
+tables v (open-line order instrument number height) = search needs
+tables v (station kb kf readings) = search needs
+tables v (end-run number) = search (needs, but-end)
+tables v drop-run = search needs
+tables v drop-section = search needs
+tables v (close-line number end) = search needs
+
+module _ (v : Standing) (c : Call) where
+  pub fails : refusal v c ≡ 0 → (n : ℕ) → testOf n (tests v c) ≡ false
+  fails e = failed (tests v c) (tables v c .all) e
+
+  pub book-fails : bookRefusal v c ≡ 0 → (n : ℕ) → testOf n (bookTests v c) ≡ false
+  unfolding bookRefusal
+  book-fails e = failed (bookTests v c) (tables v c .book) e
+
+  pub not-broken : bookRefusal v c ≡ 0 → broken v ≡ false
+  not-broken e = sym (tables v c .twenty) ∙ book-fails e 20

@@ -1,0 +1,74 @@
+-- `open_refusal` meets its contract, by the parts of a refusal.
+use mathlib.Core.Path.{_≡_, sym, _∙_}
+use mathlib.Core.Bool.{not, cond}
+use Rattle.numbers.specs.Tables.{firstOf}
+use Rattle.numbers.proofs.Machine.{stored-id}
+use Rattle.adjust.proofs.Holding.{Whole}
+use Rattle.rules.specs.Standing.{standingOf}
+use Rattle.rules.specs.Rules.{Call, open-line, inputTests}
+use Rattle.rules.proofs.Parts.{input-refused, broken-refused, state-refused}
+use Rattle.rules.proofs.Looked.{seenOf, seen-lent, saw-broken}
+use borrow.Author.Needs.{needs}
+use Rattle.rules.proofs.refusals.open_refusal.Statement.{statement}
+use Rattle.rules.proofs.refusals.open_refusal.Tie as tie
+
+open-input-requires : tie.Need-open-input-requires
+open-input-requires c κs = search needs
+
+abbrev call : tie.Start → Call
+call s = open-line (s .args .order) (s .args .instrument) (s .args .number) (s .args .height)
+
+number : (c : tie.After-open-input) → c .open-input .result ≡ firstOf (inputTests (call (c .before)))
+number c =
+    let s = c .before in
+    c .open-input .ensures
+    ∙ (λ i. firstOf (inputTests (open-line (stored-id (s .fits .order) i) (stored-id (s .fits .instrument) i) (stored-id (s .fits .number) i) (stored-id (s .fits .height) i))))
+
+returns : tie.Need-returns
+returns c =
+    let s = c .before .before in
+    input-refused (standingOf (s .args .t1)) (call s) (c .before .open-input .result) (number (c .before)) (c .if1 .taken)
+
+whole : (s : tie.Start) → Whole (s .args .t1 .sections)
+whole s = search needs
+
+look-requires : tie.Need-look-requires
+look-requires c κs = search needs
+
+-- what was seen of the book
+seen : (c : tie.After-look) → c .look .result ≡ seenOf (standingOf (c .before .before .before .before .before .before .before .before .before .before .before .before .before .args .t1))
+seen c = let s = c .before .before .before .before .before .before .before .before .before .before .before .before .before in c .look .ensures ∙ seen-lent (s .args .t1) (whole s)
+
+returns-2 : tie.Need-returns-2
+returns-2 c =
+    let k = c .before in
+    let e = k .before .before .before .before .before .before .before .before .before .before .before in
+    let s = e .before .before in
+    broken-refused (standingOf (s .args .t1)) (call s) (sym (number (e .before)) ∙ e .if1 .left) (saw-broken (standingOf (s .args .t1)) (k .look .result) (seen k) (c .if2 .taken))
+
+is-fresh-requires : tie.Need-is-fresh-requires
+is-fresh-requires c κs = search needs
+
+pick-requires : tie.Need-pick-requires
+pick-requires c κs = search needs
+
+returns-3 : tie.Need-returns-3
+returns-3 c =
+    let l = c .before .before .before in
+    let k = l .before in
+    let e = k .before .before .before .before .before .before .before .before .before .before .before in
+    let s = e .before .before in
+    state-refused (standingOf (s .args .t1)) (call s) (c .pick .result) (sym (number (e .before)) ∙ e .if1 .left) (saw-broken (standingOf (s .args .t1)) (k .look .result) (seen k) (l .if2 .left))
+    (c .pick .ensures ∙ (λ i. cond (not (c .before .is-fresh .ensures i)) 21 0))
+
+pub open-refusal-spec : {M : Type 1} → statement M
+open-refusal-spec =
+    tie.close
+    (tie.spec
+    open-input-requires
+    returns
+    look-requires
+    returns-2
+    is-fresh-requires
+    pick-requires
+    returns-3)

@@ -1,0 +1,67 @@
+-- `too_far` meets its contract: the sums of two small runs fit.
+use mathlib.Core.Path.{sym, ap, subst, _∙_}
+use mathlib.Core.Bool.{false, not}
+use lib.IntN.{ℤ, _+ℤ_}
+use Rattle.numbers.proofs.Machine.{stored}
+use Rattle.numbers.proofs.Chain.{Value, known, add, fits, kept}
+use Rattle.roots.specs.Limit.{isWithin}
+use Rattle.rules.specs.declared.Run.{Run}
+use Rattle.rules.specs.declared.Waiting.{Waiting}
+use Rattle.rules.specs.Bounds.{SmallRun, SmallRuns}
+use Rattle.rules.specs.Standing.{outwardOrReturn, bothWays}
+use Rattle.rules.specs.Rules.{discrepancyWithin}
+use borrow.Author.Needs.{needs}
+use Rattle.rules.proofs.refusals.too_far.Statement.{statement}
+use Rattle.rules.proofs.refusals.too_far.Tie as tie
+
+enum-told : tie.Need-enum-told
+enum-told c = search needs
+
+enum-known-waiting : tie.Need-enum-known-waiting
+enum-known-waiting c = search needs
+
+-- the run that waits, and both runs' bounds
+abbrev run : tie.After-waiting → Run
+run w = w .waiting .given .0 .1 .0
+
+small : (w : tie.After-waiting) → SmallRun (run w) × SmallRun (w .before .before .args .present)
+small w = subst (λ (x : Waiting). SmallRuns x (w .before .before .args .present)) (w .waiting .given .1) (w .before .before .pre)
+
+height : (w : tie.After-waiting)
+    → Value (stored (run w .height) +ℤ stored (w .before .before .args .present .height)) (run w .height +ℤ w .before .before .args .present .height) 50000000
+height w = add (known (run w .height) (small w .0 .height) tt) (known (w .before .before .args .present .height) (small w .1 .height) tt)
+
+sights : (w : tie.After-waiting)
+    → Value (stored (run w .sights) +ℤ stored (w .before .before .args .present .sights)) (run w .sights +ℤ w .before .before .args .present .sights) 1200000
+sights w = add (known (run w .sights) (small w .0 .sights) tt) (known (w .before .before .args .present .sights) (small w .1 .sights) tt)
+
+add-within : tie.Need-add-within
+add-within c = fits (height (c .before .before .before .before .before)) tt
+
+add-within-2 : tie.Need-add-within-2
+add-within-2 c = fits (sights (c .before .before .before .before .before .before .before .before .before)) tt
+
+within-requires : tie.Need-within-requires
+within-requires c κs = search needs
+
+returns : tie.Need-returns
+returns c = search needs
+
+returns-2 : tie.Need-returns-2
+returns-2 c =
+    let w = c .before .before .before .before .before .before .before .before .before .before in
+    let present = w .before .before .args .present in
+    ap not (c .within .ensures ∙ (λ i. isWithin 625 (kept (height w) tt .is i) 18 (kept (sights w) tt .is i)))
+    ∙ sym (ap (λ (x : Waiting). outwardOrReturn x false (λ number out. not (discrepancyWithin (bothWays number out present)))) (w .waiting .given .1))
+
+pub too-far-spec : {M : Type 1} → statement M
+too-far-spec =
+    tie.close
+    (tie.spec
+    enum-told
+    enum-known-waiting
+    add-within
+    add-within-2
+    within-requires
+    returns
+    returns-2)

@@ -1,0 +1,27 @@
+-- `is_misplaced` meets its contract, test by test.
+use mathlib.Core.Bool.{not, _&&_, _||_}
+use lib.Dec.{eqb}
+use borrow.Author.Needs.{needs}
+use Rattle.rules.proofs.state.is_misplaced.Statement.{statement}
+use Rattle.rules.proofs.state.is_misplaced.Tie as tie
+
+is-return-requires : tie.Need-is-return-requires
+is-return-requires c κs = search needs
+
+is-fresh-requires : tie.Need-is-fresh-requires
+is-fresh-requires c κs = search needs
+
+is-two-way-requires : tie.Need-is-two-way-requires
+is-two-way-requires c κs = search needs
+
+returns : tie.Need-returns
+returns c =
+    let fresh = c .before .before in
+    let back = fresh .before in
+    let s = back .before in
+    λ i. (fresh .is-fresh .ensures i && not (eqb (s .args .count) 0 && eqb (s .args .line .present .count) 0 && not (back .is-return .ensures i)))
+    || (back .is-return .ensures i && not (c .is-two-way .ensures i))
+
+pub is-misplaced-spec : {M : Type 1} → statement M
+is-misplaced-spec =
+    tie.close (tie.spec is-return-requires is-fresh-requires is-two-way-requires returns)

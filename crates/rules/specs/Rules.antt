@@ -1,0 +1,189 @@
+-- The rules: each call's tests, each beside its refusal number and in the order in which they are made, and what a call that is taken leaves
+-- (document 01, 'Runs, sections and the standing list' and the two lists of refusals).
+use mathlib.Core.Bool.{Bool, false, not, cond, _&&_, _||_}
+use mathlib.Core.List.{List, [], _∷_, _++_}
+use Prim.Native.Nat.{ℕ, _%_}
+use lib.ListN.{length}
+use lib.Dec.{leb, eqb}
+use lib.IntN.{ℤ, pos}
+use lib.Signed.{leZ}
+use Rattle.numbers.specs.Whole.{between, eqZ}
+use Rattle.numbers.specs.Tables.{firstOf}
+use Rattle.roots.specs.Limit.{isWithin}
+use Rattle.station.specs.declared.Order.{Order}
+use Rattle.station.specs.declared.Order.the-variants.{Third, Fourth}
+use Rattle.station.specs.declared.Instrument.{Instrument}
+use Rattle.station.specs.declared.Instrument.the-variants.{Ds3, Ds1}
+use Rattle.station.specs.Station.{stationOf, figuresOf, limitsOf, readingTests, limitTests}
+use Rattle.adjust.specs.declared.Section.{Section}
+use Rattle.adjust.specs.Sections.{heightInRange}
+use Rattle.adjust.specs.Line.{lineLength, closure}
+use Rattle.rules.specs.declared.Stage.the-variants.{Open, Closed}
+use Rattle.rules.specs.declared.Run.{Run}
+use Rattle.rules.specs.declared.Waiting.{Waiting}
+use Rattle.rules.specs.declared.Waiting.the-variants.{Nothing, Outward}
+use Rattle.rules.specs.declared.Line.{Line}
+use Rattle.rules.specs.Standing.{Standing, isFresh, isOpen, isEmpty, onLine, isShut, began, outwardOrReturn, isReturn, noRun, withStation, oneWay, bothWays, twoWay, broken}
+
+-- open: order, instrument, start number and height; station: the constants and the readings, back and fore; end run: the benchmark's number;
+-- close: the last number and the end height
+pub data Call : Type 0 where
+  open-line : ℤ → ℤ → ℤ → ℤ → Call
+  station : ℤ → ℤ → List (List ℤ) → Call
+  end-run : ℤ → Call
+  drop-run : Call
+  drop-section : Call
+  close-line : ℤ → ℤ → Call
+
+-- ---- the parts of the rules
+
+-- the order and the instrument that open's numbers name: 3 or 4; 3 for DS3, 1 for DS1 and DS05
+abbrev pub orderOf : ℤ → Order
+orderOf n = cond (eqZ n (pos 3)) Third Fourth
+
+abbrev pub instrumentOf : ℤ → Instrument
+instrumentOf n = cond (eqZ n (pos 3)) Ds3 Ds1
+
+abbrev pub numberInRange : ℤ → Bool
+numberInRange n = between (pos 1) n (pos 9999)
+
+-- within a run the back staff is the last fore staff; a return begins with the other staff than the one that ended the outward run
+abbrev pub outOfTurn : Line → ℤ → Bool
+outOfTurn l kb =
+    cond (eqb (l .present .count) 0) (outwardOrReturn (l .waiting) false (λ number run. eqZ kb (run .last))) (not (eqZ kb (l .present .last)))
+
+-- an outward run ends on a number not yet on the line, the start number alone excepted once a section stands; a return where its section began
+abbrev pub numberAllowed : Standing → ℤ → Bool
+numberAllowed v number =
+    cond (isReturn (v .line .waiting)) (eqZ number (began v))
+    (not (onLine v number) && not (eqZ number (v .line .start .number) && isEmpty (v .sections)))
+
+-- D within 12 √km
+abbrev pub discrepancyWithin : Section → Bool
+discrepancyWithin x = isWithin 625 (x .discrepancy) 18 (x .distance)
+
+-- 150 and 80 km, for a loop 200 and 100 km, in half dm
+abbrev pub lengthLimit : Order → Bool → ℤ
+lengthLimit Third loop = cond loop (pos 4000000) (pos 3000000)
+lengthLimit Fourth loop = cond loop (pos 2000000) (pos 1600000)
+
+-- W within 12 √km and 20 √km
+abbrev pub closureWithin : Order → ℤ → ℤ → Bool
+closureWithin Third w l = isWithin 625 w 72 l
+closureWithin Fourth w l = isWithin 25 w 8 l
+
+-- ---- the tests
+
+-- what the input alone causes
+abbrev pub inputTests : Call → List (ℕ × Bool)
+inputTests (open-line order instrument number height) =
+    (3, not ((eqZ order (pos 3) || eqZ order (pos 4)) && (eqZ instrument (pos 1) || eqZ instrument (pos 3))))
+    ∷ (4, not (numberInRange number)) ∷ (5, not (heightInRange height)) ∷ []
+inputTests (station kb kf readings) = readingTests (stationOf kb kf readings)
+inputTests (end-run number) = (4, not (numberInRange number)) ∷ []
+inputTests drop-run = []
+inputTests drop-section = []
+inputTests (close-line number end) = (4, not (numberInRange number)) ∷ (5, not (heightInRange end)) ∷ []
+
+-- of a line between its start and the end height: its length and its closure
+abbrev pub lineTests : Standing → ℤ → List (ℕ × Bool)
+lineTests v end =
+    (35, not (leZ (lineLength (v .sections)) (lengthLimit (v .line .order) (isShut v))))
+    ∷ (36, not (closureWithin (v .line .order) (closure (v .line .start .height) end (v .sections)) (lineLength (v .sections)))) ∷ []
+
+-- what the standing list causes
+abbrev pub stateTests : Standing → Call → List (ℕ × Bool)
+stateTests v (open-line order instrument number height) = (21, not (isFresh (v .line .stage))) ∷ []
+stateTests v (station kb kf readings) =
+    (21, not (isOpen (v .line .stage)) || isShut v)
+    ∷ (22, leb 200 (v .line .present .count))
+    ∷ (23, outOfTurn (v .line) kb)
+    ∷ limitTests (limitsOf (v .line .order) (v .line .instrument)) (v .line .present .difference) (figuresOf (stationOf kb kf readings))
+stateTests v (end-run number) =
+    (21, not (isOpen (v .line .stage)) || isShut v)
+    ∷ (29, eqb (v .line .present .count) 0 || eqb (v .line .present .count % 2) 1)
+    ∷ (31, not (isReturn (v .line .waiting)) && leb 64 (length (v .sections)))
+    ∷ (30, not (numberAllowed v number))
+    ∷ (32, outwardOrReturn (v .line .waiting) false (λ outward run. not (discrepancyWithin (bothWays outward run (v .line .present))))) ∷ []
+stateTests v drop-run = (21, not (isOpen (v .line .stage))) ∷ []
+stateTests v drop-section = (21, not (isOpen (v .line .stage))) ∷ []
+stateTests v (close-line number end) =
+    (21, not (isOpen (v .line .stage)))
+    ∷ (33, not (eqb (v .line .present .count) 0) || isReturn (v .line .waiting) || isEmpty (v .sections))
+    ∷ (34, not (eqZ number (began v)) || (isShut v && not (eqZ end (v .line .start .height))))
+    ∷ lineTests v end
+
+-- the number that the rules give, 0 where the call is taken
+abbrev pub refusal : Standing → Call → ℕ
+refusal v c = firstOf (inputTests c ++ stateTests v c)
+
+-- and that a book gives, which also tests for 20
+unfoldable pub bookRefusal : Standing → Call → ℕ
+bookRefusal v c = firstOf (inputTests c ++ ((20, broken v) ∷ stateTests v c))
+
+-- the order of the numbers: as they stand, but 31 before 30
+abbrev pub before30 : ℕ → ℕ
+before30 n = cond (eqb n 31) 30 (cond (eqb n 30) 31 n)
+
+-- ---- what a call that is taken leaves
+
+-- the line with other runs
+abbrev pub withRuns : Line → Waiting → Run → Line
+withRuns l waiting present =
+    record {
+      stage = l .stage;
+      order = l .order;
+      instrument = l .instrument;
+      start = l .start;
+      end = l .end;
+      waiting = waiting;
+      present = present;
+    }
+
+abbrev pub withSection : Standing → Section → Standing
+withSection v x = record { line = withRuns (v .line) Nothing noRun; sections = v .sections ++ (x ∷ []) }
+
+-- a return finishes the section, under the waiting number; an outward run waits, or is a section where the order is levelled one way
+abbrev pub runEnded : Standing → ℤ → Standing
+runEnded v number =
+    outwardOrReturn (v .line .waiting)
+    (cond (twoWay (v .line .order))
+    (record { line = withRuns (v .line) (Outward number (v .line .present)) noRun; sections = v .sections })
+    (withSection v (oneWay number (v .line .present))))
+    (λ outward run. withSection v (bothWays outward run (v .line .present)))
+
+abbrev pub opened : ℤ → ℤ → ℤ → ℤ → Line
+opened order instrument number height =
+    record {
+      stage = Open;
+      order = orderOf order;
+      instrument = instrumentOf instrument;
+      start = record { number = number; height = height };
+      end = pos 0;
+      waiting = Nothing;
+      present = noRun;
+    }
+
+abbrev pub closedAt : Line → ℤ → Line
+closedAt l end =
+    record {
+      stage = Closed;
+      order = l .order;
+      instrument = l .instrument;
+      start = l .start;
+      end = end;
+      waiting = l .waiting;
+      present = l .present;
+    }
+
+abbrev pub taken : Standing → Call → Standing
+taken v (open-line order instrument number height) = record { line = opened order instrument number height; sections = [] }
+taken v (station kb kf readings) =
+    record {
+      line = withRuns (v .line) (v .line .waiting) (withStation (v .line .present) (figuresOf (stationOf kb kf readings)) kf);
+      sections = v .sections;
+    }
+taken v (end-run number) = runEnded v number
+taken v drop-run = record { line = withRuns (v .line) (v .line .waiting) noRun; sections = v .sections }
+taken v drop-section = record { line = withRuns (v .line) Nothing noRun; sections = v .sections }
+taken v (close-line number end) = record { line = closedAt (v .line) end; sections = v .sections }
