@@ -2,11 +2,11 @@
 -- `adjusted_line` gives are the formulas' figures.
 use mathlib.Core.Path.{_≡_, refl, sym, ap, _∙_}
 use mathlib.Core.Bool.{Bool, true, not, cond, _&&_, _||_}
-use mathlib.Core.List.{[], _∷_}
 use Prim.Native.Nat.{ℕ}
-use lib.Dec.{eqb, eqb→eq}
+use lib.Dec.{eqb}
 use lib.IntN.{ℤ}
-use Rattle.numbers.proofs.Tests.{by-test, or-r, not-false}
+use Rattle.numbers.proofs.Tests.{or-r, not-false}
+use Rattle.numbers.proofs.Tables.{number-cond, cond-of}
 use Rattle.adjust.specs.declared.Summary.{Summary}
 use Rattle.adjust.specs.Sections.{sectionsOf, heightInRange}
 use Rattle.adjust.specs.Frames.{figuresFit, adjustedOf, nothing, adjustedIfFit}
@@ -15,15 +15,9 @@ use Rattle.book.specs.declared.CloseAnswer.the-variants.{Closed, NotClos
 use Rattle.book.specs.declared.CloseOutcome.{CloseOutcome}
 use Rattle.rules.specs.Standing.{standingOf, isEmpty, isReturn}
 use Rattle.rules.specs.Rules.{close-line, bookRefusal}
-use Rattle.book.specs.Calls.{closingOf, closeNumber, closeValues, closeAnswerOf, closeOutcome, Closes}
+use Rattle.book.specs.Calls.{closingOf, closeNumber, closeValues, closeOutcome, Closes}
 use Rattle.rules.proofs.Tables.{book-fails}
 use Rattle.rules.proofs.Unbroken.{Unbroken, unbroken, some-long}
-
-close-number : (n : ℕ) (s : Summary) → closeNumber (closeAnswerOf n s) ≡ n
-close-number n s = by-test (eqb n 0) (λ t. closeNumber (cond t (Closed s) (NotClosed n)) ≡ n) (λ t. sym (eqb→eq n 0 t)) (λ t. refl)
-
-close-values : (n : ℕ) (s : Summary) → closeValues (closeAnswerOf n s) ≡ cond (eqb n 0) (s ∷ []) []
-close-values n s = by-test (eqb n 0) (λ t. closeValues (cond t (Closed s) (NotClosed n)) ≡ cond t (s ∷ []) []) (λ t. refl) (λ t. refl)
 
 pub closes : (b : Book) (number end : ℤ) {r : CloseOutcome} → r ≡ closeOutcome b number end → Closes b number end r
 unfolding closeOutcome
@@ -31,7 +25,7 @@ closes b number end e =
     let n : ℕ = bookRefusal (standingOf b) (close-line number end) in
     let s : Summary = closingOf b end .summary in (
       e,
-      (ap (λ (o : CloseOutcome). closeNumber (o .answer)) e ∙ close-number n s, ap (λ (o : CloseOutcome). closeValues (o .answer)) e ∙ close-values n s),
+      (ap (λ (o : CloseOutcome). closeNumber (o .answer)) e ∙ number-cond closeNumber n (Closed s) (NotClosed n) refl refl, ap (λ (o : CloseOutcome). closeValues (o .answer)) e ∙ cond-of closeValues (eqb n 0) (Closed s) (NotClosed n)),
     )
 
 -- ---- a closing that is taken

@@ -21,6 +21,7 @@ use rules::refusals::drop_refusal;
 use rules::refusals::end_refusal;
 use rules::refusals::open_refusal;
 use rules::refusals::station_refusal;
+use station::Readings;
 
 // A change of the line alone. Of a call that is refused the line is the old one.
 pub fn moved(number: u8, line: Line) -> Change
@@ -94,11 +95,17 @@ pub fn open(b: Book, order: i64, instrument: i64, number: i64, height: i64) -> C
 pub fn station(b: Book, kb: i64, kf: i64, readings: [[i64; 4]; 2]) -> Change
     ensures { λ r. ⌜ Makes b (station kb kf readings) r ⌝ }
 {
-    let code = station_refusal(b, kb, kf, readings);
-    if code != 0 {
-        return moved(code, b.line);
+    let read = station::read(kb, kf, readings);
+    match read {
+        Readings::Refused(number) => moved(number, b.line),
+        Readings::Station(f) => {
+            let code = station_refusal(b, kb, f);
+            if code != 0 {
+                return moved(code, b.line);
+            }
+            moved(0, with_taken_station(b.line, f, kf))
+        }
     }
-    moved(0, with_taken_station(b, kb, kf, readings))
 }
 
 pub fn end_run(b: Book, number: i64) -> Change

@@ -6,7 +6,7 @@ ghost use Rattle.adjust.specs.Sections.{sectionsOf};
 ghost use Rattle.station.specs.Bounds.{Small};
 ghost use Rattle.rules.specs.declared.Waiting.the-variants.{Nothing, Outward};
 ghost use Rattle.rules.specs.Standing.{standingOf, noRun, withStation, oneWay, bothWays, twoWay};
-ghost use Rattle.rules.specs.Rules.{station, end-run, orderOf, instrumentOf, withRuns, withSection, closedAt, bookRefusal, taken};
+ghost use Rattle.rules.specs.Rules.{end-run, orderOf, instrumentOf, withRuns, withSection, closedAt, bookRefusal, taken};
 ghost use Rattle.rules.specs.Rules as Rules;
 ghost use Rattle.rules.specs.Bounds.{SmallRun};
 ghost use Rattle.book.specs.Changes.{Leaves};
@@ -105,14 +105,12 @@ fn with_station(u: Run, f: Figures, kf: i64) -> Run
     }
 }
 
-pub(crate) fn with_taken_station(b: Book, kb: i64, kf: i64, readings: [[i64; 4]; 2]) -> Line
-    requires { ⌜ bookRefusal (standingOf b) (station kb kf readings) ≡ 0 ⌝ }
-    ensures { λ r. ⌜ r ≡ taken (standingOf b) (station kb kf readings) .line ⌝ }
+pub(crate) fn with_taken_station(line: Line, f: Figures, kf: i64) -> Line
+    requires { ⌜ SmallRun (line .present) × Small f ⌝ }
+    ensures { λ r. ⌜ r ≡ withRuns line (line .waiting) (withStation (line .present) f kf) ⌝ }
 {
-    let line = b.line;
     let waiting = line.waiting;
     let present = line.present;
-    let f = station::figures_of(kb, kf, readings);
     with_runs(line, waiting, with_station(present, f, kf))
 }
 

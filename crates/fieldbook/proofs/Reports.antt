@@ -5,10 +5,11 @@ use mathlib.Core.List.{List, [], _∷_, _++_, map}
 use Prim.Native.Nat.{ℕ, suc, _+_, _≤_, _<_}
 use native.Mathlib.Omega.{arith}
 use borrow.Author.Tests.{lt-ltb, le-ltb}
-use lib.Dec.{ltb, eqb, eqb→eq}
+use lib.Dec.{ltb, eqb}
 use lib.ListN.{length, length-map}
 use Rattle.numbers.specs.Whole.{anyOf}
 use Rattle.numbers.proofs.Tests.{by-test, is-true}
+use Rattle.numbers.proofs.Tables.{number-cond, cond-of}
 use Rattle.numbers.proofs.Filled.{filled-length}
 use Rattle.adjust.specs.declared.Point.{Point}
 use Rattle.adjust.specs.declared.Adjusted.{Adjusted}
@@ -162,9 +163,8 @@ module _ (t d : List ℕ) where
       let long : ℕ = length (report t) in (
         e,
         (
-          ap reducedNumber e ∙ by-test (eqb n 0) (λ b. reducedNumber (cond b (Written long) (Refused n)) ≡ n) (λ b. sym (eqb→eq n 0 b)) (λ b. refl),
-          λ old. ap (λ (x : Reduced). reducedLength x old) e
-              ∙ by-test (eqb n 0) (λ b. reducedLength (cond b (Written long) (Refused n)) old ≡ cond b long old) (λ b. refl) (λ b. refl),
+          ap reducedNumber e ∙ number-cond reducedNumber n (Written long) (Refused n) refl refl,
+          λ old. ap (λ (x : Reduced). reducedLength x old) e ∙ cond-of (λ (x : Reduced). reducedLength x old) (eqb n 0) (Written long) (Refused n),
         ),
       )
 

@@ -27,3 +27,7 @@ module _ (v : Standing) (c : Call) where
 
   pub state-refused : (n : ℕ) → firstOf (inputTests c) ≡ 0 → broken v ≡ false → n ≡ firstOf (stateTests v c) → n ≡ bookRefusal v c
   state-refused n e k s = sym (by-parts 0 true false n e refl k (sym s))
+
+  -- both of these, where the input was tested before
+  pub later-refused : (n : ℕ) → firstOf (inputTests c) ≡ 0 → n ≡ firstOf ((20, broken v) ∷ stateTests v c) → n ≡ bookRefusal v c
+  later-refused n e s = s ∙ sym (by-parts 0 true (broken v) (firstOf (stateTests v c)) e refl refl refl)

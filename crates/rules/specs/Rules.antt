@@ -14,6 +14,7 @@ use Rattle.station.specs.declared.Order.{Order}
 use Rattle.station.specs.declared.Order.the-variants.{Third, Fourth}
 use Rattle.station.specs.declared.Instrument.{Instrument}
 use Rattle.station.specs.declared.Instrument.the-variants.{Ds3, Ds1}
+use Rattle.station.specs.declared.Figures.{Figures}
 use Rattle.station.specs.Station.{stationOf, figuresOf, limitsOf, readingTests, limitTests}
 use Rattle.adjust.specs.declared.Section.{Section}
 use Rattle.adjust.specs.Sections.{heightInRange}
@@ -91,14 +92,18 @@ lineTests v end =
     (35, not (leZ (lineLength (v .sections)) (lengthLimit (v .line .order) (isShut v))))
     ∷ (36, not (closureWithin (v .line .order) (closure (v .line .start .height) end (v .sections)) (lineLength (v .sections)))) ∷ []
 
--- what the standing list causes
-abbrev pub stateTests : Standing → Call → List (ℕ × Bool)
-stateTests v (open-line order instrument number height) = (21, not (isFresh (v .line .stage))) ∷ []
-stateTests v (station kb kf readings) =
+-- of a station with the figures f, whose back staff has the constant kb
+abbrev pub stationTests : Standing → ℤ → Figures → List (ℕ × Bool)
+stationTests v kb f =
     (21, not (isOpen (v .line .stage)) || isShut v)
     ∷ (22, leb 200 (v .line .present .count))
     ∷ (23, outOfTurn (v .line) kb)
-    ∷ limitTests (limitsOf (v .line .order) (v .line .instrument)) (v .line .present .difference) (figuresOf (stationOf kb kf readings))
+    ∷ limitTests (limitsOf (v .line .order) (v .line .instrument)) (v .line .present .difference) f
+
+-- what the standing list causes
+abbrev pub stateTests : Standing → Call → List (ℕ × Bool)
+stateTests v (open-line order instrument number height) = (21, not (isFresh (v .line .stage))) ∷ []
+stateTests v (station kb kf readings) = stationTests v kb (figuresOf (stationOf kb kf readings))
 stateTests v (end-run number) =
     (21, not (isOpen (v .line .stage)) || isShut v)
     ∷ (29, eqb (v .line .present .count) 0 || eqb (v .line .present .count % 2) 1)

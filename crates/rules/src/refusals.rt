@@ -1,13 +1,13 @@
 // The refusals of the calls: what the input alone causes, then 20, then what the book's state causes, the first that applies.
 ghost use mathlib.Core.Path.{_≡_};
 ghost use mathlib.Core.Bool.{false, not, cond};
+ghost use mathlib.Core.List.{_∷_};
 ghost use Prim.Native.Nat.{_≤_};
 ghost use Rattle.numbers.specs.Whole.{eqZ};
 ghost use Rattle.numbers.specs.Tables.{firstOf};
-ghost use Rattle.station.specs.Station.{readingRefusal};
 ghost use Rattle.rules.specs.Standing.{standingOf, broken, isShut, outwardOrReturn, bothWays};
 ghost use Rattle.rules.specs.Bounds.{SmallRuns};
-ghost use Rattle.rules.specs.Rules.{open-line, station, end-run, drop-run, numberInRange, numberAllowed, discrepancyWithin, outOfTurn, inputTests, stateTests, bookRefusal};
+ghost use Rattle.rules.specs.Rules.{open-line, end-run, drop-run, numberInRange, numberAllowed, discrepancyWithin, outOfTurn, inputTests, stationTests, stateTests, bookRefusal};
 use super::Book;
 use super::Line;
 use super::Run;
@@ -19,6 +19,7 @@ use super::state::is_return;
 use super::state::look;
 use super::state::on_line;
 use roots::limits::within;
+use station::Figures;
 
 // code where t holds, rest otherwise.
 pub(crate) fn pick(t: bool, code: u8, rest: u8) -> u8
@@ -90,35 +91,25 @@ fn out_of_turn(line: Line, kb: i64) -> bool
     kb != line.present.last
 }
 
-// The refusal that the state of a book causes, 20 apart, to a station whose readings are not refused.
-fn station_state(b: Book, shut: bool, kb: i64, kf: i64, readings: [[i64; 4]; 2]) -> u8
-    requires { ⌜ (shut ≡ isShut (standingOf b)) × (readingRefusal kb kf readings ≡ 0) ⌝ }
-    ensures { λ r. ⌜ r ≡ firstOf (stateTests (standingOf b) (station kb kf readings)) ⌝ }
+// The refusal that the state of a book causes, 20 apart, to a station with the figures f.
+fn station_state(b: Book, shut: bool, kb: i64, f: Figures) -> u8
+    requires { ⌜ shut ≡ isShut (standingOf b) ⌝ }
+    ensures { λ r. ⌜ r ≡ firstOf (stationTests (standingOf b) kb f) ⌝ }
 {
     let line = b.line;
     let stage = line.stage;
     let order = line.order;
     let instrument = line.instrument;
-    let limits = station::limit_refusal(
-        order,
-        instrument,
-        line.present.difference,
-        kb,
-        kf,
-        readings,
-    );
+    let limits = station::judge(order, instrument, line.present.difference, f);
     let turn = pick(out_of_turn(line, kb), 23, limits);
     let full = pick(200 <= line.present.count, 22, turn);
     pick(!is_open(stage) | shut, 21, full)
 }
 
-pub fn station_refusal(b: Book, kb: i64, kf: i64, readings: [[i64; 4]; 2]) -> u8
-    ensures { λ r. ⌜ r ≡ bookRefusal (standingOf b) (station kb kf readings) ⌝ }
+// The refusal of a station whose readings were read: f are its figures, kb the constant of its back staff.
+pub fn station_refusal(b: Book, kb: i64, f: Figures) -> u8
+    ensures { λ r. ⌜ r ≡ firstOf ((20, broken (standingOf b)) ∷ stationTests (standingOf b) kb f) ⌝ }
 {
-    let input = station::reading_refusal(kb, kf, readings);
-    if input != 0 {
-        return input;
-    }
     let seen = look(
         b.line,
         b.sections.count,
@@ -130,7 +121,7 @@ pub fn station_refusal(b: Book, kb: i64, kf: i64, readings: [[i64; 4]; 2]) -> u8
     if seen.broken {
         return 20;
     }
-    station_state(b, seen.shut, kb, kf, readings)
+    station_state(b, seen.shut, kb, f)
 }
 
 // ---- drop run, and drop section, whose tests are the same

@@ -1,50 +1,129 @@
--- `station` meets its contract, by the laws that join a refusal and an effect.
-use mathlib.Core.Path.{refl}
+-- `station` meets its contract: readings that are refused, and a station that is refused or taken, by the laws that join a refusal and an effect.
+use mathlib.Core.Path.{_≡_, refl, sym, ap, subst, _∙_}
+use mathlib.Core.List.{_∷_}
+use Rattle.numbers.specs.Tables.{firstOf}
+use Rattle.numbers.proofs.Machine.{stored}
+use Rattle.station.specs.declared.Figures.{Figures}
+use Rattle.station.specs.declared.Readings.{Readings}
+use Rattle.station.specs.Bounds.{Small}
+use Rattle.station.specs.Station.{stationOf, figuresOf, readingRefusal, Reads}
+use Rattle.station.proofs.Answered.{of-station, of-refused}
+use Rattle.station.proofs.Sizes.{read, figures-small}
 use Rattle.adjust.proofs.Holding.{Whole}
+use Rattle.rules.specs.Standing.{standingOf, broken, withStation}
+use Rattle.rules.specs.Rules.{Call, station, stationTests, bookRefusal, withRuns}
+use Rattle.rules.proofs.Tables.{not-broken}
+use Rattle.rules.proofs.Parts.{input-refused, later-refused}
+use Rattle.rules.proofs.Unbroken.{unbroken}
 use Rattle.book.proofs.Joined.{station-as, makes-refused, makes-moved}
 use borrow.Author.Needs.{needs}
 use Rattle.book.proofs.changes.station.Statement.{statement}
 use Rattle.book.proofs.changes.station.Tie as tie
 
-station-refusal-requires : tie.Need-station-refusal-requires
-station-refusal-requires c κs = search needs
+read-requires : tie.Need-read-requires
+read-requires c κs = search needs
+
+enum-known-read : tie.Need-enum-known-read
+enum-known-read c = search needs
 
 moved-requires : tie.Need-moved-requires
 moved-requires c κs = search needs
+
+enum-known-read-2 : tie.Need-enum-known-read-2
+enum-known-read-2 c = search needs
+
+station-refusal-requires : tie.Need-station-refusal-requires
+station-refusal-requires c κs = search needs
+
+moved-requires-2 : tie.Need-moved-requires-2
+moved-requires-2 c κs = search needs
+
+moved-requires-3 : tie.Need-moved-requires-3
+moved-requires-3 c κs = search needs
+
+-- the call as it is read back
+abbrev asked : tie.Start → Call
+asked s = station (stored (s .args .kb)) (stored (s .args .kf)) (s .args .readings)
+
+same : (s : tie.Start) → asked s ≡ station (s .args .kb) (s .args .kf) (s .args .readings)
+same s = station-as (s .args .readings) (s .fits .kb) (s .fits .kf)
+
+abbrev figures : tie.Start → Figures
+figures s = figuresOf (stationOf (stored (s .args .kb)) (stored (s .args .kf)) (s .args .readings))
+
+-- what is read is that of the case
+reads : (c : tie.After-read) {r : Readings} → c .read .result ≡ r → Reads (stored (c .before .args .kb)) (stored (c .before .args .kf)) (c .before .args .readings) r
+reads c e = let a = c .before .args in subst (Reads (stored (a .kb)) (stored (a .kf)) (a .readings)) e (c .read .ensures)
+
+returns-2 : tie.Need-returns-2
+unfolding readingRefusal
+returns-2 c =
+    let k = c .before .before in
+    let r = k .before .before in
+    let s = r .before in
+    let refused = of-refused (stored (s .args .kb)) (stored (s .args .kf)) (s .args .readings) (reads r (k .read2 .given .1)) in
+    makes-refused (s .args .b) (same s) (input-refused (standingOf (s .args .b)) (asked s) (k .read2 .given .0 .0) (refused .0) (refused .1)) (refused .1) (c .moved .ensures)
+
+-- ---- a station
+
+taken : (k : tie.After-read3) → (readingRefusal (stored (k .before .before .before .args .kb)) (stored (k .before .before .before .args .kf)) (k .before .before .before .args .readings) ≡ 0)
+    × (k .read3 .given .0 .0 ≡ figures (k .before .before .before))
+taken k =
+    let r = k .before .before in
+    let a = r .before .args in
+    of-station (stored (a .kb)) (stored (a .kf)) (a .readings) (reads r (k .read3 .given .1))
+
+number : (c : tie.After-station-refusal) → c .station-refusal .result ≡ bookRefusal (standingOf (c .before .before .before .before .before .args .b)) (asked (c .before .before .before .before .before))
+unfolding readingRefusal
+number c =
+    let k = c .before .before in
+    let s = k .before .before .before in
+    let v = standingOf (s .args .b) in
+    later-refused v (asked s) (c .station-refusal .result) (taken k .0)
+    (c .station-refusal .ensures ∙ ap (λ (f : Figures). firstOf ((20, broken v) ∷ stationTests v (stored (s .args .kb)) f)) (taken k .1))
 
 returns : tie.Need-returns
 returns c =
     let t = c .before in
     let r = t .before in
-    let s = r .before in
-    let same = station-as (s .args .readings) (s .fits .kb) (s .fits .kf) in
-    makes-refused (s .args .b) same (r .station-refusal .ensures) (t .if1 .taken) (c .moved .ensures)
+    let s = r .before .before .before .before .before in
+    makes-refused (s .args .b) (same s) (number r) (t .if1 .taken) (c .moved2 .ensures)
 
 with-taken-station-requires : tie.Need-with-taken-station-requires
-with-taken-station-requires c κs = search needs
-
-moved-requires-2 : tie.Need-moved-requires-2
-moved-requires-2 c κs = search needs
+with-taken-station-requires c κs =
+    let r = c .before in
+    let k = r .before .before in
+    let s = k .before .before .before in (
+      unbroken (s .args .b) (not-broken (standingOf (s .args .b)) (asked s) (sym (number r) ∙ c .if1 .left)) .present,
+      subst Small (sym (taken k .1)) (figures-small (read (stored (s .args .kb)) (stored (s .args .kf)) (s .args .readings) (taken k .0))),
+    )
 
 whole : (s : tie.Start) → Whole (s .args .b .sections)
 whole s = search needs
 
-returns-2 : tie.Need-returns-2
-returns-2 c =
+returns-3 : tie.Need-returns-3
+returns-3 c =
     let d = c .before in
     let e = d .before in
     let r = e .before in
-    let s = r .before in
-    let same = station-as (s .args .readings) (s .fits .kb) (s .fits .kf) in
-    makes-moved (s .args .b) same (r .station-refusal .ensures) (whole s) (e .if1 .left) (c .moved2 .ensures) (d .with-taken-station .ensures) refl
+    let k = r .before .before in
+    let s = k .before .before .before in
+    let l = s .args .b .line in
+    let line = d .with-taken-station .ensures ∙ ap (λ (f : Figures). withRuns l (l .waiting) (withStation (l .present) f (stored (s .args .kf)))) (taken k .1) in
+    makes-moved (s .args .b) (same s) (number r) (whole s) (e .if1 .left) (c .moved3 .ensures) line refl
 
 pub station-spec : {M : Type 1} → statement M
 station-spec =
     tie.close
     (tie.spec
-    station-refusal-requires
+    read-requires
+    enum-known-read
     moved-requires
+    enum-known-read-2
+    station-refusal-requires
+    moved-requires-2
     returns
     with-taken-station-requires
-    moved-requires-2
-    returns-2)
+    moved-requires-3
+    returns-2
+    returns-3)

@@ -1,37 +1,17 @@
--- `station_refusal` meets its contract, by the parts of a refusal.
-use mathlib.Core.Path.{_≡_, refl, sym, _∙_}
+-- `station_refusal` meets its contract, by what was seen of the book.
+use mathlib.Core.Path.{_≡_, sym, ap, _∙_}
+use mathlib.Core.Bool.{Bool, cond}
+use Prim.Native.Nat.{ℕ}
+use lib.IntN.{ℤ}
 use Rattle.numbers.specs.Tables.{firstOf}
-use Rattle.numbers.proofs.Machine.{stored-both, holds-stored}
-use Rattle.station.specs.Station.{readingRefusal}
+use Rattle.numbers.proofs.Machine.{stored-id}
 use Rattle.adjust.proofs.Holding.{Whole}
-use Rattle.rules.specs.Standing.{standingOf}
-use Rattle.rules.specs.Rules.{Call, station, inputTests, stateTests}
-use Rattle.rules.proofs.Parts.{input-refused, broken-refused, state-refused}
+use Rattle.rules.specs.Standing.{Standing, standingOf}
+use Rattle.rules.specs.Rules.{stationTests}
 use Rattle.rules.proofs.Looked.{seenOf, seen-lent, saw-broken, saw-shut}
 use borrow.Author.Needs.{needs}
 use Rattle.rules.proofs.refusals.station_refusal.Statement.{statement}
 use Rattle.rules.proofs.refusals.station_refusal.Tie as tie
-
-reading-refusal-requires : tie.Need-reading-refusal-requires
-reading-refusal-requires c κs = search needs
-
-abbrev call : tie.Start → Call
-call s = station (s .args .kb) (s .args .kf) (s .args .readings)
-
-number : (c : tie.After-reading-refusal) → c .reading-refusal .result ≡ readingRefusal (c .before .args .kb) (c .before .args .kf) (c .before .args .readings)
-number c =
-    let s = c .before in
-    c .reading-refusal .ensures ∙ stored-both (λ b f. readingRefusal b f (s .args .readings)) (s .fits .kb) (s .fits .kf)
-
--- which is the input's number
-input : (s : tie.Start) → readingRefusal (s .args .kb) (s .args .kf) (s .args .readings) ≡ firstOf (inputTests (call s))
-unfolding readingRefusal
-input s = refl
-
-returns : tie.Need-returns
-returns c =
-    let s = c .before .before in
-    input-refused (standingOf (s .args .t1)) (call s) (c .before .reading-refusal .result) (number (c .before) ∙ input s) (c .if1 .taken)
 
 whole : (s : tie.Start) → Whole (s .args .t1 .sections)
 whole s = search needs
@@ -39,45 +19,35 @@ whole s = search needs
 look-requires : tie.Need-look-requires
 look-requires c κs = search needs
 
--- what was seen of the book
-seen : (c : tie.After-look) → c .look .result ≡ seenOf (standingOf (c .before .before .before .before .before .before .before .before .before .before .before .before .before .args .t1))
-seen c = let s = c .before .before .before .before .before .before .before .before .before .before .before .before .before in c .look .ensures ∙ seen-lent (s .args .t1) (whole s)
+abbrev start : tie.After-look → tie.Start
+start c = c .before .before .before .before .before .before .before .before .before .before .before
 
-read : (c : tie.Else1) → readingRefusal (c .before .before .args .kb) (c .before .before .args .kf) (c .before .before .args .readings) ≡ 0
-read c = sym (number (c .before)) ∙ c .if1 .left
+abbrev held : tie.After-look → Standing
+held c = standingOf (start c .args .t1)
+
+-- the number of the tests from 21 on
+abbrev rest : tie.After-look → ℕ
+rest c = firstOf (stationTests (held c) (start c .args .kb) (start c .args .f))
+
+-- what was seen of the book
+seen : (c : tie.After-look) → c .look .result ≡ seenOf (held c)
+seen c = c .look .ensures ∙ seen-lent (start c .args .t1) (whole (start c))
+
+returns : tie.Need-returns
+returns c =
+    let k = c .before in
+    sym (ap (λ (t : Bool). cond t 20 (rest k)) (saw-broken (held k) (k .look .result) (seen k) (c .if1 .taken)))
+
+station-state-requires : tie.Need-station-state-requires
+station-state-requires c κs = let k = c .before in saw-shut (held k) (k .look .result) (seen k) (c .if1 .left)
 
 returns-2 : tie.Need-returns-2
 returns-2 c =
-    let k = c .before in
-    let e = k .before .before .before .before .before .before .before .before .before .before .before in
-    let s = e .before .before in
-    broken-refused (standingOf (s .args .t1)) (call s) (sym (input s) ∙ read e) (saw-broken (standingOf (s .args .t1)) (k .look .result) (seen k) (c .if2 .taken))
-
-station-state-requires : tie.Need-station-state-requires
-station-state-requires c κs =
-    let k = c .before in
-    let e = k .before .before .before .before .before .before .before .before .before .before .before in
-    let s = e .before .before in (
-      saw-shut (standingOf (s .args .t1)) (k .look .result) (seen k) (c .if2 .left),
-      holds-stored (λ b f. readingRefusal b f (s .args .readings) ≡ 0) (s .fits .kb) (s .fits .kf) (read e),
-    )
-
-returns-3 : tie.Need-returns-3
-returns-3 c =
-    let l = c .before in
-    let k = l .before in
-    let e = k .before .before .before .before .before .before .before .before .before .before .before in
-    let s = e .before .before in
-    state-refused (standingOf (s .args .t1)) (call s) (c .station-state .result) (sym (input s) ∙ read e) (saw-broken (standingOf (s .args .t1)) (k .look .result) (seen k) (l .if2 .left))
-    (c .station-state .ensures ∙ stored-both (λ b f. firstOf (stateTests (standingOf (s .args .t1)) (station b f (s .args .readings)))) (s .fits .kb) (s .fits .kf))
+    let e = c .before in
+    let k = e .before in
+    let s = start k in
+    c .station-state .ensures ∙ ap (λ (kb : ℤ). firstOf (stationTests (held k) kb (s .args .f))) (stored-id (s .fits .kb))
+    ∙ sym (ap (λ (t : Bool). cond t 20 (rest k)) (saw-broken (held k) (k .look .result) (seen k) (e .if1 .left)))
 
 pub station-refusal-spec : {M : Type 1} → statement M
-station-refusal-spec =
-    tie.close
-    (tie.spec
-    reading-refusal-requires
-    returns
-    look-requires
-    returns-2
-    station-state-requires
-    returns-3)
+station-refusal-spec = tie.close (tie.spec look-requires returns station-state-requires returns-2)
