@@ -22,7 +22,7 @@ pub record Fitted (s : Sections) : Type 0 where
   pub few : s .count ≤ 64
   pub sections : anyOutside false (sectionsOf s) ≡ false
 
--- at least one section, and both known heights in their range
+-- at least one section, and both known heights of at most 8,999,999 either way
 pub record Between (start end : ℤ) (s : Sections) : Type 0 where
   pub some : 1 ≤ s .count
   pub fits : Fits s
@@ -39,7 +39,7 @@ pub record Summed (k : ℕ) (t : Sums) : Type 0 where
   pub height : natAbs (t .height) ≤ 50000000 * k
   pub distance : natAbs (t .distance) ≤ 1200000 * k
 
--- the known heights, and W and L, of up to 64 sections
+-- the known height at the start, and W and L, of up to 64 sections
 pub record Framed (f : Known) : Type 0 where
   pub start : natAbs (f .start) ≤ 8999999
   pub closing : natAbs (f .closing) ≤ 3271999992

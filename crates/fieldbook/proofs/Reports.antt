@@ -8,6 +8,8 @@ use borrow.Author.Tests.{lt-ltb, le-ltb}
 use lib.Dec.{ltb, eqb, eqb→eq}
 use lib.ListN.{length, length-map}
 use Rattle.numbers.specs.Whole.{anyOf}
+use Rattle.numbers.specs.Tables.{Lowest}
+use Rattle.numbers.proofs.Tables.{first-lowest}
 use Rattle.numbers.proofs.Tests.{by-test, is-true}
 use Rattle.numbers.proofs.Filled.{filled-length}
 use Rattle.adjust.specs.declared.Point.{Point}
@@ -34,7 +36,7 @@ use Rattle.textbook.specs.declared.reading.State.{State}
 use Rattle.fieldbook.specs.declared.Reduced.{Reduced}
 use Rattle.fieldbook.specs.declared.Reduced.the-variants.{Written, Refused}
 use Rattle.textbook.specs.Text.{lineNext, lineRefusals, readingAfter, refusalsFrom, callsOf}
-use Rattle.fieldbook.specs.Report.{refLine, openLine, closingLines, resultLines, reportOf, withoutHeading, reportLines, report, textRefusal, bufferAfter, reducedNumber, reducedLength, reducedAs, reducedOf, Reduces, printedFor, printedInto, printedLength}
+use Rattle.fieldbook.specs.Report.{refLine, openLine, closingLines, resultLines, reportOf, withoutHeading, reportLines, report, textTests, textRefusal, bufferAfter, reducedNumber, reducedLength, reducedAs, reducedOf, Reduces, printedFor, printedInto, printedLength}
 use Rattle.fieldbook.specs.Fits.{closedFits, pointFits}
 use Rattle.textbook.specs.State.{lineCount, stateAfter}
 use Rattle.fieldbook.specs.Printed.{refusalBytes, closingIn, bookLines, stateLines, Printable}
@@ -167,6 +169,11 @@ module _ (t d : List ℕ) where
               ∙ by-test (eqb n 0) (λ b. reducedLength (cond b (Written long) (Refused n)) old ≡ cond b long old) (λ b. refl) (λ b. refl),
         ),
       )
+
+  -- 9 before 10
+  pub text-lowest : Lowest (λ n. n) (textTests t d) (textRefusal t d)
+  unfolding textRefusal
+  text-lowest = first-lowest (λ n. n) (textTests t d) 0 refl
 
   pub too-long : 65268 < length t → textRefusal t d ≡ 9
   unfolding textRefusal
