@@ -8,6 +8,7 @@ use lib.IntN.{ℤ, pos, negℤ}
 use Rattle.numbers.specs.Whole.{within, between, anyOf}
 use Rattle.adjust.specs.declared.Section.{Section}
 use Rattle.adjust.specs.declared.Sections.{Sections}
+use Rattle.adjust.specs.Sizes.{highest, mostQ, mostR, mostD}
 
 -- ---- in arrays
 
@@ -48,14 +49,14 @@ holding s ss =
 
 -- document 01's range of Q and R in the adjustment call (refusal 12)
 abbrev pub legInRange : Section → Bool
-legInRange x = within (x .height) 2500000 && between (pos 1) (x .distance) (pos 1200000)
+legInRange x = within (x .height) 2500000 && between (pos 1) (x .distance) (pos mostR)
 
 -- A wider range, in which all figures of up to 64 sections fit 64 bits. No section of a book made by calls is outside it.
 abbrev pub legFits : Section → Bool
-legFits x = within (x .height) 50000000 && between (pos 1) (x .distance) (pos 1200000)
+legFits x = within (x .height) mostQ && between (pos 1) (x .distance) (pos mostR)
 
 abbrev pub sectionFits : Section → Bool
-sectionFits x = legFits x && within (x .discrepancy) 100000
+sectionFits x = legFits x && within (x .discrepancy) mostD
 
 -- outside document 01's range, or outside the wider one
 abbrev pub outside : Bool → Section → Bool
@@ -81,4 +82,4 @@ abbrev pub misfitIn : ℕ → List ℤ → List ℤ → List ℤ → Bool
 misfitIn count hs ds es = not (leb count (length hs)) || not (leb count (length ds)) || not (leb count (length es)) || misfit (sectionsOf (lent count hs ds es))
 
 abbrev pub heightInRange : ℤ → Bool
-heightInRange h = between (negℤ (pos 999999)) h (pos 8999999)
+heightInRange h = between (negℤ (pos 999999)) h (pos highest)

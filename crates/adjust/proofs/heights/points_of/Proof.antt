@@ -19,6 +19,7 @@ use Rattle.adjust.specs.declared.Section.{Section}
 use Rattle.adjust.specs.declared.Sections.{Sections}
 use Rattle.adjust.specs.declared.heights.Known.{Known}
 use Rattle.adjust.specs.declared.heights.Progress.{Progress}
+use Rattle.adjust.specs.Sizes.{mostQ, mostR}
 use Rattle.adjust.specs.Sections.{sectionAt, sectionsOf}
 use Rattle.adjust.specs.Line.{pointAfter, pointsAfter, points}
 use Rattle.adjust.specs.Frames.{frame, noPoint}
@@ -77,8 +78,8 @@ module _ {f : Known} {number : ℤ} {s : Sections} {array : List Point} {w : Pro
   next h =
       let x = sectionAt s k in
       let p = moved f w x .point in
-      let q : natAbs (w .height +ℤ x .height) ≤ 50000000 * (k + 1) = omega (arith, abs-add (w .height) (x .height), g .reached .height, leg .height) in
-      let r : natAbs (w .point .distance +ℤ x .distance) ≤ 1200000 * (k + 1) = omega (arith, abs-add (w .point .distance) (x .distance), g .reached .distance, leg .distance) in
+      let q : natAbs (w .height +ℤ x .height) ≤ mostQ * (k + 1) = omega (arith, abs-add (w .height) (x .height), g .reached .height, leg .height) in
+      let r : natAbs (w .point .distance +ℤ x .distance) ≤ mostR * (k + 1) = omega (arith, abs-add (w .point .distance) (x .distance), g .reached .distance, leg .distance) in
       record {
         place = omega arith;
         reached = record { height = q; distance = r; printed = printed-size f (w .height +ℤ x .height) (w .point .distance +ℤ x .distance) h (omega arith) (omega arith) };
