@@ -2,10 +2,10 @@
 use mathlib.Core.Path.{_≡_}
 use mathlib.Core.List.{List, _∷_, _++_, map}
 use Prim.Native.Nat.{ℕ}
+use Rattle.numbers.specs.Whole.{putAt}
 use Rattle.book.specs.declared.Stage.the-variants.{Closed}
 use Rattle.ledger.specs.Plain.{freshReading, closings}
 use Rattle.ledger.specs.Claims.{ClosedOnce}
-use Rattle.columns.specs.Buffers.{putAt}
 use Rattle.columns.specs.Lines.{heading, title}
 use Rattle.columns.specs.Texts.{lines, joined}
 use Rattle.textbook.specs.Text.{lineRefusals, readingAfter, callsOf, refusalsFrom}

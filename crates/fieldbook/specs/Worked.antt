@@ -4,11 +4,11 @@ use mathlib.Core.Bool.{false}
 use mathlib.Core.List.{List, [], _∷_}
 use Prim.Native.Nat.{ℕ}
 use lib.IntN.{ℤ, pos, negsuc}
+use Rattle.numbers.specs.Whole.{putAt}
 use Rattle.columns.specs.declared.reader.Tag.{Tag}
 use Rattle.columns.specs.declared.reader.Tag.the-variants.{Lin, Sta, Run, End}
 use Rattle.roots.specs.Round.{roundEven}
 use Rattle.roots.specs.Limit.{isWithin}
-use Rattle.columns.specs.Buffers.{putAt}
 use Rattle.columns.specs.Decimals.{blanks, digitsBy, digits, decimal, fitsIn, pad, same, valueOf, hasMinus, candidate, fieldOf}
 use Rattle.columns.specs.Lines.{lineEnd, lineWith, widthOf, fields, allFit, columnsOf, lineFits, tagLine, isWide, heading, title}
 use Rattle.columns.specs.Records.{letters, tagAmong, allNumbers, numbersIn, numbersLine, recordIn, lineIn}

@@ -2,11 +2,12 @@
 ghost use mathlib.Core.Path.{_≡_};
 ghost use Prim.Native.Nat.{_+_, _≤_};
 ghost use lib.ListN.{length, take, drop};
+ghost use Rattle.numbers.specs.Whole.{written};
 ghost use Rattle.book.specs.Standing.{bookWith};
 ghost use Rattle.book.specs.Calls.{freshBook};
 ghost use Rattle.book.specs.Changes.{Makes};
 ghost use Rattle.ledger.specs.Plain.{freshReading, after, refusals, standing};
-ghost use Rattle.runner.specs.Calls.{openOf, stationOf, callOf, callsOf, stepOf, written};
+ghost use Rattle.runner.specs.Calls.{openOf, stationOf, callOf, callsOf, stepOf};
 ghost use Rattle.runner.specs.Figures.{bookFigures};
 use book::Book;
 use book::Change;
