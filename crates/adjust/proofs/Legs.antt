@@ -13,11 +13,11 @@ use lib.Dec.{eqb}
 use lib.ListN.{length, getD, take, drop, replicate, length-map, List·getD-map}
 use lib.Seq.{drop-cons, take-length}
 use lib.IntN.{ℤ, pos}
-use Rattle.numbers.specs.Whole.{filled}
+use Rattle.numbers.specs.Whole.{filled, over}
 use Rattle.numbers.proofs.Filled.{filled-length, filled-take}
 use Rattle.adjust.specs.declared.Section.{Section}
 use Rattle.adjust.specs.declared.entry.Leg.{Leg}
-use Rattle.adjust.specs.Sections.{sectionAt, sectionsFrom, sectionsOf, over}
+use Rattle.adjust.specs.Sections.{sectionAt, sectionsFrom, sectionsOf}
 use Rattle.adjust.specs.Call.{numberOf, answerOf, adjustRefusal, adjustedHeights, heightsAfter}
 use Rattle.adjust.specs.Legs.{legSection, legSections, noLeg, gathered, legTable}
 use Rattle.adjust.proofs.Lists.{from-length}

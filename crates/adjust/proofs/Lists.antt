@@ -17,6 +17,7 @@ use Rattle.adjust.specs.declared.Section.{Section}
 use Rattle.adjust.specs.declared.Sections.{Sections}
 use Rattle.adjust.specs.Sizes.{mostQ, mostR, mostD}
 use Rattle.adjust.specs.Sections.{sectionAt, sectionsFrom, sectionsOf, legInRange, legFits, sectionFits}
+use Rattle.adjust.specs.Line.{Frame, pointsAfter}
 use Rattle.adjust.specs.Bounds.{LegBounds}
 
 -- ---- the sections from place k on, which a loop has still to visit
@@ -85,3 +86,9 @@ strict-legs xs e = all-weaken legInRange legFits wider xs e
         let r = between (pos 1) (x .distance) (pos mostR) in
         let q : natAbs (x .height) ≤ 2500000 = within-size (x .height) 2500000 (and-l (within (x .height) 2500000) r h) in
         (λ i. le-leb (natAbs (x .height)) mostQ (omega arith) i && and-r (within (x .height) 2500000) r h i)
+
+-- ---- a point for each section
+
+pub points-length : (f : Frame) (q s h : ℤ) (ss : List Section) → length (pointsAfter f q s h ss) ≡ length ss
+points-length f q s h [] = refl
+points-length f q s h (x ∷ xs) = ap suc (points-length f _ _ _ xs)

@@ -1,11 +1,11 @@
 -- The sections of a line, as a list and in arrays.
 use mathlib.Core.Bool.{Bool, false, not, cond, _&&_, _||_}
-use mathlib.Core.List.{List, [], _∷_, _++_, map}
+use mathlib.Core.List.{List, [], _∷_, map}
 use Prim.Native.Nat.{ℕ, zero, suc, _+_}
-use lib.ListN.{length, getD, drop}
+use lib.ListN.{length, getD}
 use lib.Dec.{leb}
 use lib.IntN.{ℤ, pos, negℤ}
-use Rattle.numbers.specs.Whole.{within, between, anyOf}
+use Rattle.numbers.specs.Whole.{within, between, anyOf, over}
 use Rattle.adjust.specs.declared.Section.{Section}
 use Rattle.adjust.specs.declared.Sections.{Sections}
 use Rattle.adjust.specs.Sizes.{highest, mostQ, mostR, mostD}
@@ -29,10 +29,6 @@ sectionsFrom s k (suc n) = sectionAt s k ∷ sectionsFrom s (k + 1) n
 
 abbrev pub sectionsOf : Sections → List Section
 sectionsOf s = sectionsFrom s 0 (s .count)
-
--- an array with its first places overwritten by a list; the others keep what they held
-abbrev pub over : {A : Type 0} → List A → List A → List A
-over xs ys = xs ++ drop (length xs) ys
 
 -- the arrays s with the list ss in them
 unfoldable pub holding : Sections → List Section → Sections

@@ -8,6 +8,7 @@ use lib.ListN.{length, drop, length-append, length-drop, length-map}
 use lib.IntN.{ℤ, pos, _*ℤ_}
 use Rattle.adjust.specs.declared.Point.{Point}
 use Rattle.adjust.specs.Line.{frameOf, Closing}
+use Rattle.adjust.proofs.Lists.{points-length}
 use Rattle.columns.specs.Decimals.{same}
 use Rattle.columns.specs.Lines.{fields, lineFits, lineWith, tagLine, isWide, heading}
 use Rattle.columns.specs.Texts.{linesBy, lines, joined}
@@ -16,7 +17,6 @@ use Rattle.rules.specs.declared.Stage.{Stage}
 use Rattle.rules.specs.declared.Stage.the-variants.{Fresh, Open, Closed}
 use Rattle.rules.specs.Standing.{isClosed}
 use Rattle.ledger.specs.Plain.{Reading, freshReading, sectionOf, figuresOf}
-use Rattle.ledger.proofs.Traced.{points-length}
 use Rattle.textbook.specs.Text.{Refusal, lineRefusals, refusalsFrom, readingAfter}
 use Rattle.fieldbook.specs.Report.{refLine, closedNumbers, pointNumbers, pointLine, openLine, closingLines, resultLines, reportOf, withoutHeading, reportLines, report}
 use Rattle.fieldbook.specs.Fits.{ReportFits}

@@ -7,7 +7,7 @@ use native.Mathlib.Omega.{arith}
 use borrow.Author.Tests.{lt-ltb, le-ltb}
 use lib.Dec.{ltb, eqb, eqb→eq}
 use lib.ListN.{length, length-map}
-use Rattle.numbers.specs.Whole.{anyOf}
+use Rattle.numbers.specs.Whole.{anyOf, putAt}
 use Rattle.numbers.specs.Tables.{Lowest}
 use Rattle.numbers.proofs.Tables.{first-lowest}
 use Rattle.numbers.proofs.Tests.{by-test, is-true}
@@ -16,7 +16,6 @@ use Rattle.adjust.specs.declared.Point.{Point}
 use Rattle.adjust.specs.declared.Adjusted.{Adjusted}
 use Rattle.adjust.specs.Line.{Closing}
 use Rattle.adjust.specs.Frames.{noPoint}
-use Rattle.columns.specs.Buffers.{putAt}
 use Rattle.columns.specs.Decimals.{same}
 use Rattle.columns.specs.Lines.{heading, title}
 use Rattle.columns.specs.Records.{lineIn}

@@ -10,17 +10,18 @@ use lib.Dec.{eqb}
 use lib.IntN.{ℤ, pos}
 use lib.ListN.{length, getD, take, drop, length-append, length-take, drop-of-length-le}
 use lib.Seq.{getD-take}
+use Rattle.numbers.specs.Whole.{putAt}
 use Rattle.numbers.proofs.Tests.{by-test}
 use Rattle.numbers.proofs.All.{all-head, all-tail}
+use Rattle.numbers.proofs.Arrays.{length-putAt, put-after, put-all, drop-next}
 use Rattle.adjust.specs.declared.Point.{Point}
 use Rattle.adjust.specs.declared.Adjusted.{Adjusted}
 use Rattle.adjust.specs.Frames.{noPoint}
-use Rattle.columns.specs.Buffers.{putAt, placed}
+use Rattle.columns.specs.Buffers.{placed}
 use Rattle.columns.specs.Lines.{widthOf, allFit, columnsOf, lineFits, tagLine, isWide, title}
 use Rattle.columns.specs.Texts.{joined}
-use Rattle.columns.proofs.Put.{length-putAt, put-none, put-after, placed-room}
+use Rattle.columns.proofs.Put.{placed-room}
 use Rattle.columns.proofs.Lines.{length-line, length-title}
-use Rattle.columns.proofs.Lists.{drop-next}
 use Rattle.columns.proofs.Texts.{joined-append}
 use Rattle.rules.specs.declared.Book.{Book}
 use Rattle.rules.specs.Standing.{isClosed}
@@ -83,7 +84,7 @@ module _ {whole d₀ : List ℕ} {from : ℕ} {rest d : List ℕ} {at : ℕ} (l 
       }
 
   pub left-none : rest ≡ [] → (at ≡ from + length whole) × (d ≡ putAt d₀ from whole)
-  left-none e = (omega (arith, l .ends, ap length e), sym (put-none d at) ∙ ap (putAt d at) (sym e) ∙ l .put)
+  left-none e = (omega (arith, l .ends, ap length e), put-all d at e (l .put))
 
 -- ---- refusals
 

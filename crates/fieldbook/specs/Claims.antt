@@ -9,7 +9,7 @@ use Rattle.rules.specs.Rules.{Call}
 use Rattle.ledger.specs.Plain.{Reading, freshReading, closings}
 use Rattle.ledger.specs.Claims.{ClosedOnce}
 use Rattle.ledger.specs.Trace.{FreshEnsures, Trace}
-use Rattle.columns.specs.Buffers.{putAt}
+use Rattle.numbers.specs.Whole.{putAt}
 use Rattle.columns.specs.Lines.{heading, title}
 use Rattle.columns.specs.Records.{lineIn}
 use Rattle.columns.specs.Texts.{lines, joined}
