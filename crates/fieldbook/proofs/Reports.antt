@@ -1,12 +1,12 @@
 -- The report of the reader's state is the report of the text.
 use mathlib.Core.Path.{_≡_, refl, sym, ap, subst, _∙_}
-use mathlib.Core.Bool.{Bool, true, not, cond}
+use mathlib.Core.Bool.{Bool, true, false, not, cond}
 use mathlib.Core.List.{List, [], _∷_, _++_, map}
 use Prim.Native.Nat.{ℕ, suc, _+_, _≤_, _<_}
 use native.Mathlib.Omega.{arith}
 use borrow.Author.Tests.{lt-ltb, le-ltb}
 use lib.Dec.{ltb}
-use lib.ListN.{length, length-map}
+use lib.ListN.{length, take, length-map}
 use Rattle.numbers.specs.Whole.{anyOf}
 use Rattle.numbers.proofs.Tests.{by-test, is-true}
 use Rattle.numbers.proofs.Filled.{filled-length}
@@ -32,7 +32,7 @@ use Rattle.ledger.proofs.Again.{bookOf, fresh-holds, figures-again}
 use Rattle.ledger.proofs.Traced.{points-back}
 use Rattle.fieldbook.specs.declared.reading.State.{State}
 use Rattle.fieldbook.specs.Text.{lineNext, lineRefusals, readingAfter, refusalsFrom, callsOf}
-use Rattle.fieldbook.specs.Report.{refLine, openLine, closingLines, resultLines, reportOf, withoutHeading, reportLines, report, textRefusal, bufferAfter, reducedAs, reducedOf, printedFor, printedInto, printedLength}
+use Rattle.fieldbook.specs.Report.{refLine, openLine, closingLines, resultLines, reportOf, withoutHeading, reportLines, report, textRefusal, bufferAfter, reducedAs, reducedOf, printedFor, printedOf}
 use Rattle.fieldbook.specs.Fits.{closedFits, pointFits}
 use Rattle.fieldbook.specs.State.{lineCount, stateAfter}
 use Rattle.fieldbook.specs.Printed.{refusalBytes, closingIn, bookLines, stateLines, Printable}
@@ -164,21 +164,17 @@ module _ (t d : List ℕ) where
   unfolding textRefusal
   not-refused h g = rw (le-ltb 65268 (length t) h, le-ltb (length d) 65536 g)
 
-  -- what the program prints: nothing into a small buffer, REF 0 9, the report
-  pub prints-nothing : length d < 65536 → (printedLength t d ≡ 0) × (printedInto t d ≡ d)
-  unfolding printedLength printedInto
-  prints-nothing h =
-      let e = lt-ltb (length d) 65536 h in
-      (ap (λ (b : Bool). cond b 0 (length (printedFor t))) e, ap (λ (b : Bool). cond b d (putAt d 0 (printedFor t))) e)
-
-  pub prints : 65536 ≤ length d → (s : List ℕ) → printedFor t ≡ s → (printedLength t d ≡ length s) × (printedInto t d ≡ putAt d 0 s)
-  unfolding printedLength printedInto
-  prints h s p =
-      let e = le-ltb (length d) 65536 h in
-      (λ i. cond (e i) 0 (length (p i)), λ i. cond (e i) d (putAt d 0 (p i)))
+-- ---- the program
 
 pub prints-9 : (t : List ℕ) → 65268 < length t → printedFor t ≡ refusalBytes 0 9
 prints-9 t h = ap (λ (b : Bool). cond b (refusalBytes 0 9) (report t)) (lt-ltb 65268 (length t) h)
 
 pub prints-report : (t : List ℕ) → length t ≤ 65268 → printedFor t ≡ report t
 prints-report t h = ap (λ (b : Bool). cond b (refusalBytes 0 9) (report t)) (le-ltb 65268 (length t) h)
+
+module _ (input : List ℕ) (n : ℕ) where
+  pub prints-nothing : (failed : Bool) → failed ≡ true → printedOf input n failed ≡ []
+  prints-nothing failed e = ap (printedOf input n) e
+
+  pub prints-text : (failed : Bool) (s : List ℕ) → failed ≡ false → printedFor (take n input) ≡ s → printedOf input n failed ≡ s
+  prints-text failed s e p = ap (printedOf input n) e ∙ p
