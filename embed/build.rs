@@ -9,12 +9,14 @@ fn main() {
         None => Path::new(&package).join("../target/staticlib"),
     };
     println!("cargo:rustc-link-search=native={}", folder.display());
-    for name in ["api", "adjust", "runner", "fieldbook"] {
+    let names = ["api", "adjust", "runner", "fieldbook"];
+    for name in names {
         let library = folder.join(format!("lib{name}.a"));
         println!("cargo:rerun-if-changed={}", library.display());
         if !library.is_file() {
             eprintln!("{} is missing.", library.display());
-            eprintln!("Run `rt staticlib {name}` at the root of the repository, or give the folder that has the libraries as LEVELBOOK_LIB_DIR, a full path.");
+            eprintln!("At the root of the repository run: for name in {}; do rt staticlib $name; done", names.join(" "));
+            eprintln!("Or give the folder that has the libraries as LEVELBOOK_LIB_DIR, a full path.");
             std::process::exit(1);
         }
         println!("cargo:rustc-link-lib=static={name}");
