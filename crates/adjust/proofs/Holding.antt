@@ -2,13 +2,11 @@
 use mathlib.Core.Path.{_≡_, refl, sym, ap, _∙_}
 use mathlib.Core.List.{List, [], _∷_, _++_, map, append-assoc, map-append}
 use Prim.Native.Nat.{ℕ, zero, suc, _+_, _≤_, _<_}
-use native.Mathlib.Numerals.{add-one}
 use native.Mathlib.Omega.{arith}
 use lib.ListN.{length, getD, set, drop, length-append, length-map}
-use lib.Seq.{drop-cons}
 use lib.IntN.{ℤ, pos}
 use Rattle.numbers.specs.Whole.{over}
-use Rattle.numbers.proofs.Arrays.{over-next, over-again}
+use Rattle.numbers.proofs.Arrays.{drop-next, over-next, over-again}
 use Rattle.adjust.specs.declared.Section.{Section}
 use Rattle.adjust.specs.declared.Sections.{Sections}
 use Rattle.adjust.specs.Sections.{sectionAt, sectionsFrom, sectionsOf, holding}
@@ -58,8 +56,7 @@ module _ (s : Sections) (f : Section → ℤ) (a : List ℤ) (e : (k : ℕ) → 
   own-from k (suc n) h =
       (λ i. e k i ∷ (map f (sectionsFrom s (k + 1) n) ++ drop (shift i) a))
       ∙ ap (λ (l : List ℤ). getD a k (pos 0) ∷ l) (own-from (k + 1) n (omega arith))
-      ∙ ap (λ (m : ℕ). getD a k (pos 0) ∷ drop m a) (add-one k)
-      ∙ sym (drop-cons a k (pos 0) (omega arith))
+      ∙ sym (drop-next a k (pos 0) (omega arith))
     where
       shift : k + suc n ≡ k + 1 + n
       shift = omega arith

@@ -209,16 +209,9 @@ module _ (s : State) where
 
   pub state-put : (d : List ℕ) → putAt (putAt (putAt d 0 title) 84 refusals) (84 + length refusals) stands ≡ putAt d 0 (joined (stateLines s))
   state-put d =
-      ap (λ (x : List ℕ). putAt x (84 + length refusals) stands) first
-      ∙ ap (λ (k : ℕ). putAt (putAt d 0 (title ++ refusals)) k stands) (sym second)
+      let first : 84 ≡ 0 + length title = omega (arith, length-title) in
+      let second : 84 + length refusals ≡ 0 + length (title ++ refusals) = omega (arith, length-append title refusals, length-title) in
+      (λ i. putAt (putAt (putAt d 0 title) (first i) refusals) (second i) stands)
+      ∙ ap (λ (x : List ℕ). putAt x (0 + length (title ++ refusals)) stands) (put-after d 0 title refusals (omega arith))
       ∙ put-after d 0 (title ++ refusals) stands (omega arith)
       ∙ ap (putAt d 0) (append-assoc title refusals stands ∙ sym state-bytes)
-    where
-      e : length title ≡ 84 → 84 ≡ 0 + length title
-      e h = omega arith
-
-      first : putAt (putAt d 0 title) 84 refusals ≡ putAt d 0 (title ++ refusals)
-      first = ap (λ (k : ℕ). putAt (putAt d 0 title) k refusals) (e length-title) ∙ put-after d 0 title refusals (omega arith)
-
-      second : 0 + length (title ++ refusals) ≡ 84 + length refusals
-      second = omega (arith, length-append title refusals, length-title)
