@@ -1,18 +1,24 @@
-//! Links the static libraries that `rt staticlib` writes to target/staticlib of the repository.
-use std::path::Path;
+//! Links the static libraries that `rt staticlib` writes: those of the folder LEVELBOOK_LIB_DIR, or of target/staticlib of the repository.
+use std::path::{Path, PathBuf};
 
 fn main() {
     let package = std::env::var("CARGO_MANIFEST_DIR").expect("cargo sets it");
-    let folder = Path::new(&package).join("../target/staticlib");
+    println!("cargo:rerun-if-env-changed=LEVELBOOK_LIB_DIR");
+    let folder = match std::env::var_os("LEVELBOOK_LIB_DIR") {
+        Some(given) => PathBuf::from(given),
+        None => Path::new(&package).join("../target/staticlib"),
+    };
     println!("cargo:rustc-link-search=native={}", folder.display());
-    for name in ["api", "adjust", "runner", "fieldbook"] {
+    let names = ["api", "adjust", "runner", "fieldbook"];
+    for name in names {
         let library = folder.join(format!("lib{name}.a"));
         println!("cargo:rerun-if-changed={}", library.display());
-        assert!(
-            library.is_file(),
-            "{} is missing: run `rt staticlib {name}` at the root of the repository first",
-            library.display()
-        );
+        if !library.is_file() {
+            eprintln!("{} is missing.", library.display());
+            eprintln!("At the root of the repository run: for name in {}; do rt staticlib $name; done", names.join(" "));
+            eprintln!("Or give the folder that has the libraries as LEVELBOOK_LIB_DIR, a full path.");
+            std::process::exit(1);
+        }
         println!("cargo:rustc-link-lib=static={name}");
     }
 }

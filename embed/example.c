@@ -15,7 +15,7 @@ static int adjust(void)
     int64_t heights[2];
     const uint8_t number = level_adjust(sections, 2, 10000, 11206, heights, 2);
     if (number != 0) {
-        fprintf(stderr, "refusal %u\n", number);
+        fprintf(stderr, "refusal %u: %s\n", number, level_refusal(number));
         return 1;
     }
     printf("%" PRId64 "\n%" PRId64 "\n", heights[0], heights[1]);
@@ -30,11 +30,15 @@ int main(int argc, char **argv)
     if (argc > 1)
         return adjust();
     const size_t text_length = fread(text, 1, sizeof text, stdin);
-    size_t length = 0;
-    const uint8_t number = level_reduce(text, text_length, report, sizeof report, &length);
-    if (number != 0) {
-        fprintf(stderr, "refusal %u\n", number);
+    if (ferror(stdin)) { /* what was read may be a part of the text only */
+        perror("standard input");
         return 1;
     }
-    return fwrite(report, 1, length, stdout) == length ? 0 : 1;
+    size_t written = 0;
+    const uint8_t number = level_reduce(text, text_length, report, sizeof report, &written);
+    if (number != 0) {
+        fprintf(stderr, "refusal %u: %s\n", number, level_refusal(number));
+        return 1;
+    }
+    return fwrite(report, 1, written, stdout) == written ? 0 : 1;
 }

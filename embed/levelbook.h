@@ -5,7 +5,7 @@
  *
  * A list is lent as a pointer and a length. The pointer is not NULL even where the length is 0; lists that are lent to one call do not overlap; a
  * number list is aligned as C aligns its type. Within that the functions take every input, allocate nothing and keep nothing between calls.
- * An answer of type uint8_t is document 01's number of the refusal (docs/REFUSALS.md), 0 for a call that is taken. */
+ * An answer of type uint8_t is document 01's number of the refusal (`level_refusal` and docs/REFUSALS.md), 0 for a call that is taken. */
 #ifndef LEVELBOOK_H
 #define LEVELBOOK_H
 
@@ -22,10 +22,24 @@ extern "C" {
 #define LEVEL_CALL_NUMBERS 11u
 #define LEVEL_FIGURES 270u
 
-/* The report of a text book into the beginning of `report`, and its length in bytes into `*length`. What is wrong within the text is said in the
+/* What a refusal number means, in UTF-8; NULL for a number that there is not. */
+static inline const char *level_refusal(uint8_t number)
+{
+    switch (number) {
+#define LEVEL_REFUSAL(number, meaning) \
+    case number: \
+        return meaning;
+#include "refusals.def"
+#undef LEVEL_REFUSAL
+    default:
+        return NULL;
+    }
+}
+
+/* The report of a text book into the beginning of `report`, and its length in bytes into `*written`. What is wrong within the text is said in the
  * report. Refused with 9 if the text is above LEVEL_LONGEST_TEXT bytes, else with 10 if the buffer is below LEVEL_REPORT_ROOM; then neither
- * `report` nor `*length` is touched. Bytes beyond the report keep their values. Library fieldbook. */
-uint8_t level_reduce(const uint8_t *text, size_t text_length, uint8_t *report, size_t report_length, size_t *length);
+ * `report` nor `*written` is touched. Bytes beyond the report keep their values. Library fieldbook. */
+uint8_t level_reduce(const uint8_t *text, size_t text_length, uint8_t *report, size_t report_length, size_t *written);
 
 /* A section: its height difference Q in quarter mm, its distance R in half dm. */
 struct level_leg {

@@ -3,7 +3,7 @@
 //!
 //! The functions are those of the static libraries that `rt staticlib` builds from `crates/`, where each is proved to meet its contract. They take
 //! every input, allocate nothing and keep nothing between calls, so threads may call them at the same time. This package only lends them slices;
-//! programs in C use `levelbook.h` beside it.
+//! programs in C use `levelbook.h` beside it. The libraries are those of the folder `LEVELBOOK_LIB_DIR`, or of the repository's `target/staticlib`.
 //!
 //! ```
 //! let rows = [
@@ -22,17 +22,25 @@
 //! # Ok::<(), Box<dyn std::error::Error>>(())
 //! ```
 
+mod calls;
 pub mod raw;
 mod refusal;
 
+pub use calls::{run_calls, Call, Closing, Outcome, Point, Run, Staff};
 pub use raw::Leg;
-pub use refusal::Refusal;
+pub use refusal::{meaning, Refusal};
 
 /// The longest text in bytes: 777 lines of 83 columns and a line feed.
 pub const LONGEST_TEXT: usize = 65_268;
 
 /// The bytes that a report buffer has at least. No report is longer, whatever the text.
 pub const REPORT_ROOM: usize = 65_536;
+
+/// How many numbers a call has in the list of [`run`].
+pub const CALL_NUMBERS: usize = 11;
+
+/// How many figures [`run`] has of a book.
+pub const FIGURES: usize = 270;
 
 /// The report of a text book.
 ///
@@ -63,10 +71,10 @@ pub fn reduce(text: &[u8]) -> Result<Vec<u8>, Refusal> {
 ///
 /// [`Refusal::TextTooLong`] for a text above [`LONGEST_TEXT`], else [`Refusal::BufferTooShort`] for a buffer below [`REPORT_ROOM`]. The buffer is untouched then.
 pub fn reduce_into(text: &[u8], report: &mut [u8]) -> Result<usize, Refusal> {
-    let mut length = 0;
+    let mut written = 0;
     // SAFETY: slices of every length are taken, each as a pointer and a length; the one is read and the other written within its length.
-    let number = unsafe { raw::level_reduce(text.as_ptr(), text.len(), report.as_mut_ptr(), report.len(), &mut length) };
-    Refusal::check(number).map(|()| length)
+    let number = unsafe { raw::level_reduce(text.as_ptr(), text.len(), report.as_mut_ptr(), report.len(), &mut written) };
+    Refusal::check(number).map(|()| written)
 }
 
 /// The adjustment by itself: from the known heights (mm) at both ends of a line and the Q and R of its sections to one height (mm) a section, into
@@ -91,7 +99,7 @@ pub fn adjust(start: i64, end: i64, sections: &[Leg], heights: &mut [i64]) -> Re
     Refusal::check(unsafe { raw::level_adjust(sections.as_ptr(), sections.len(), start, end, heights.as_mut_ptr(), heights.len()) })
 }
 
-/// A list of calls on a fresh book, 11 numbers a call; numbers behind the last whole call are not read. Each call's refusal number, 0 where it is
+/// A list of calls on a fresh book, [`CALL_NUMBERS`] numbers a call; numbers behind the last whole call are not read. [`run_calls`] has the same with types. Each call's refusal number, 0 where it is
 /// taken, goes into its place of `numbers`, the figures of the book that is left into `figures`, both as far as there are places.
 ///
 /// A call's first number is its kind, the others are its arguments, and those that it does not have are not looked at: 1 open (order, instrument,
@@ -99,12 +107,14 @@ pub fn adjust(start: i64, end: i64, sections: &[Leg], heights: &mut [i64]) -> Re
 /// height). Any other kind is refused with 4.
 ///
 /// The figures are W, L, n, T and verdict, each 0 while the line is not closed; of the present run its stations, the sum of twice-heights, of sights
-/// and of d; the finished sections; then number, S, correction and height of the start and each section, 0 where there is none: 270 numbers.
+/// and of d; the finished sections; then number, S, correction and height of the start and each section, 0 where there is none: [`FIGURES`] numbers.
 ///
 /// ```
+/// use levelbook::FIGURES;
+///
 /// let open = [1, 4, 3, 1, 10_000, 0, 0, 0, 0, 0, 0];
 /// let station = [2, 4787, 1571, 1197, 1384, 6171, 4687, 739, 363, 551, 5239];
-/// let (mut numbers, mut figures) = ([99; 3], [0; 270]);
+/// let (mut numbers, mut figures) = ([99; 3], [0; FIGURES]);
 /// levelbook::run(&[open, station, station].concat(), &mut numbers, &mut figures);
 /// assert_eq!(numbers, [0, 0, 23]);
 /// assert_eq!(figures[5..10], [1, 1665, 750, -2, 0]);

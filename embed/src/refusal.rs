@@ -1,20 +1,36 @@
 use std::fmt;
 
-/// Why a call was refused, by document 01's number. What a book refuses of its text is not here but in the report.
+/// The rows LEVEL_REFUSAL(number, "meaning"), which levelbook.h includes.
+const TABLE: &str = include_str!("../refusals.def");
+
+/// What a refusal number means; nothing for a number that there is not. What the party does about it is in docs/REFUSALS.md.
+///
+/// ```
+/// assert_eq!(levelbook::meaning(4), Some("benchmark number outside 1 to 9,999"));
+/// assert_eq!(levelbook::meaning(0), None);
+/// ```
+pub fn meaning(number: u8) -> Option<&'static str> {
+    let begin = format!("LEVEL_REFUSAL({number}, \"");
+    TABLE.lines().find_map(|row| row.strip_prefix(&begin)?.strip_suffix("\")"))
+}
+
+/// Why a call of the libraries was refused, by document 01's number. What a book refuses of its text is not here but in the report, and what it
+/// refuses of a list of calls is in [`crate::Outcome::numbers`].
 #[derive(Clone, Copy, Debug, PartialEq, Eq, Hash)]
 #[repr(u8)]
+#[non_exhaustive]
 pub enum Refusal {
-    /// A known height outside −999,999 to 8,999,999 mm.
+    /// A known height.
     Height = 5,
-    /// A text above 65,268 bytes.
+    /// The text.
     TextTooLong = 9,
-    /// A report buffer below 65,536 bytes.
+    /// The report buffer.
     BufferTooShort = 10,
-    /// No sections, or more than 64.
+    /// How many sections there are.
     Sections = 11,
-    /// A section with R outside 1 to 1,200,000 half dm or Q outside ±2,500,000 quarter mm.
+    /// The R or Q of a section.
     Section = 12,
-    /// A height list shorter than the sections.
+    /// The height list.
     ListTooShort = 13,
 }
 
@@ -22,10 +38,12 @@ impl Refusal {
     const ALL: [Refusal; 6] =
         [Refusal::Height, Refusal::TextTooLong, Refusal::BufferTooShort, Refusal::Sections, Refusal::Section, Refusal::ListTooShort];
 
-    /// Document 01's number.
+    /// Document 01's number, of which [`meaning`] has the text.
     ///
     /// ```
-    /// assert_eq!(levelbook::reduce(&[b' '; 65_269]).unwrap_err().number(), 9);
+    /// let refusal = levelbook::reduce(&[b' '; 65_269]).unwrap_err();
+    /// assert_eq!(refusal.number(), 9);
+    /// assert_eq!(refusal.to_string(), "refusal 9: text above 65,268 bytes (777 lines)");
     /// ```
     pub fn number(self) -> u8 {
         self as u8
@@ -42,15 +60,8 @@ impl Refusal {
 
 impl fmt::Display for Refusal {
     fn fmt(&self, f: &mut fmt::Formatter<'_>) -> fmt::Result {
-        let meaning = match self {
-            Refusal::Height => "a known height is outside -999,999 to 8,999,999 mm",
-            Refusal::TextTooLong => "the text is above 65,268 bytes",
-            Refusal::BufferTooShort => "the report buffer is below 65,536 bytes",
-            Refusal::Sections => "there are no sections, or more than 64",
-            Refusal::Section => "a section's R is outside 1 to 1,200,000 half dm or its Q outside ±2,500,000 quarter mm",
-            Refusal::ListTooShort => "the height list is shorter than the sections",
-        };
-        write!(f, "refusal {}: {meaning}", self.number())
+        let number = self.number();
+        write!(f, "refusal {number}: {}", meaning(number).expect("a row of the table"))
     }
 }
 

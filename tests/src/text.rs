@@ -60,7 +60,7 @@ fn is_heading(piece: &[u8]) -> bool {
 }
 
 /// How many fields a tag has.
-fn fields_of(tag: &[u8]) -> Option<usize> {
+pub fn fields_of(tag: &[u8]) -> Option<usize> {
     match tag {
         b"LIN" => Some(4),
         b"STA" => Some(10),

@@ -4,7 +4,7 @@ use std::collections::BTreeMap;
 use level_tests::fraction::narrow;
 use level_tests::generate::book;
 use level_tests::mutate::any_call;
-use level_tests::plain::{Answer, Call, Closing, Reading};
+use level_tests::plain::{Answer, Call, Closing, Point, Reading};
 use level_tests::random::Random;
 use level_tests::station::{accumulated_d, sum_of_heights, sum_of_sights};
 use level_tests::write::numbers_of;
@@ -18,6 +18,36 @@ fn eleven(random: &mut Random, call: &Call) -> [i64; 11] {
     let used = numbers_of(call);
     numbers[..used.len()].copy_from_slice(&used);
     numbers
+}
+
+/// The call as the package has it.
+fn typed(call: &Call) -> levelbook::Call {
+    let staff = |constant, [upper, lower, black, red]: [i64; 4]| levelbook::Staff { constant, upper, lower, black, red };
+    match *call {
+        Call::Open { order, instrument, start, height } => levelbook::Call::Open { order, instrument, start, height },
+        Call::Station { back_k, fore_k, readings } => levelbook::Call::Station { back: staff(back_k, readings[0]), fore: staff(fore_k, readings[1]) },
+        Call::EndRun(number) => levelbook::Call::EndRun { number },
+        Call::DropRun => levelbook::Call::DropRun,
+        Call::DropSection => levelbook::Call::DropSection,
+        Call::CloseLine { number, height } => levelbook::Call::CloseLine { number, height },
+    }
+}
+
+/// What a list of calls as types gives: each call's number, and what the plain reading is left with.
+fn compare_typed(calls: &[Call], numbers: &[u8], reading: &Reading, closed: &Option<Closing>) {
+    let outcome = levelbook::run_calls(&calls.iter().map(typed).collect::<Vec<_>>());
+    let point = |one: &Point| levelbook::Point { number: one.number, distance: one.distance, correction: one.correction, height: one.height };
+    let closing = closed.as_ref().map(|one| levelbook::Closing {
+        closure: one.w,
+        length: one.l,
+        sections: one.n,
+        accidental: one.t,
+        verdict: one.verdict,
+        points: one.points.iter().map(point).collect(),
+    });
+    let figures = figures_of(reading, closed);
+    let run = levelbook::Run { stations: figures[5], twice_height: figures[6], sights: figures[7], difference: figures[8] };
+    assert_eq!(outcome, levelbook::Outcome { numbers: numbers.to_vec(), sections: figures[9], run, closing }, "{calls:?}");
 }
 
 /// A kind that is no call's.
@@ -75,6 +105,7 @@ fn compare(random: &mut Random, calls: &[Call], counts: &mut BTreeMap<u8, u64>) 
         *counts.entry(number).or_default() += 1;
         expected.push(number);
     }
+    compare_typed(calls, &expected, &reading, &closed);
     for _ in 0..random.below(11) {
         list.push(random.between(0, 7));
     }

@@ -1,5 +1,8 @@
 //! The program `reduce`, from standard input to standard output.
+use std::fs::File;
 use std::io::{Read, Write};
+use std::net::{TcpListener, TcpStream};
+use std::os::fd::OwnedFd;
 use std::path::PathBuf;
 use std::process::{Child, ChildStdin, Command, ExitStatus, Stdio};
 use std::thread::{sleep, spawn};
@@ -92,7 +95,7 @@ fn the_examples() {
 #[test]
 fn the_examples_from_a_file() {
     for example in examples() {
-        let file = std::fs::File::open(path(&format!("examples/{}.book", example.name))).expect("the book");
+        let file = File::open(path(&format!("examples/{}.book", example.name))).expect("the book");
         let output = Command::new(program()).stdin(file).output().expect("the program runs");
         assert_eq!(all(&output.stdout[..]), all(&example.report[..]), "{}", example.name);
     }
@@ -146,6 +149,62 @@ fn an_input_that_falls_silent() {
         sleep(2 * PATIENCE);
     });
     assert_eq!(report, too_long());
+}
+
+/// What the program prints of an input of another kind; it ends without a complaint.
+fn from(input: impl Into<Stdio>) -> String {
+    let output = Command::new(program()).stdin(input).output().expect("the program runs");
+    assert_eq!((all(&output.stderr[..]), output.status.code()), (String::new(), Some(0)));
+    all(&output.stdout[..])
+}
+
+/// A connection: the end to lend to the program, and the other one.
+fn connection() -> (TcpStream, TcpStream) {
+    let listener = TcpListener::bind("127.0.0.1:0").expect("a port of this machine");
+    let near = TcpStream::connect(listener.local_addr().expect("its address")).expect("a connection");
+    let (far, _) = listener.accept().expect("its other end");
+    (near, far)
+}
+
+/// What the program prints of a connection over which a text comes, and which is then closed, or breaks: it is reset where its other end is
+/// closed with something unread in it.
+fn over_a_connection(text: &[u8], breaks: bool) -> String {
+    let (mut near, mut far) = connection();
+    if breaks {
+        near.write_all(b"unread").expect("the connection takes it");
+    }
+    let text = text.to_vec();
+    let feed = spawn(move || {
+        far.write_all(&text).expect("the connection takes it");
+        // so that the program has read it, and waits for more
+        sleep(Duration::from_millis(200));
+    });
+    let printed = from(OwnedFd::from(near));
+    feed.join().expect("the other end");
+    printed
+}
+
+/// Nothing is printed, also where what came before ends with a line and is a book.
+#[test]
+fn an_input_that_cannot_be_read() {
+    assert_eq!(from(File::open(path("examples")).expect("a folder")), "");
+    let closed = Command::new("sh").args(["-c", "exec \"$0\" <&-"]).arg(program()).output().expect("the program runs");
+    assert_eq!((all(&closed.stdout[..]), all(&closed.stderr[..])), (String::new(), String::new()));
+    let (near, _far) = connection();
+    near.set_nonblocking(true).expect("a connection that does not wait");
+    assert_eq!(from(OwnedFd::from(near)), "");
+}
+
+#[test]
+fn a_connection_that_breaks() {
+    let text = book("case-a");
+    for lines in 0..=text.len() / 84 {
+        assert_eq!(over_a_connection(&text[..84 * lines], true), "", "after {lines} lines");
+    }
+    assert_eq!(over_a_connection(&text[..100], true), "");
+    assert_eq!(over_a_connection(&text, false), expected(&text));
+    // too long before it breaks
+    assert_eq!(over_a_connection(&[b' '; LONGEST_TEXT + 1], true), too_long());
 }
 
 /// The reader goes away before the report comes: the program ends, and says nothing.

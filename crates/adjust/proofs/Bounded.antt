@@ -1,5 +1,5 @@
 -- How large the heights of a line of up to 64 sections can be, exact and printed, and t of a section.
-use Prim.Native.Nat.{_*_, _≤_, _<_}
+use Prim.Native.Nat.{_+_, _*_, _≤_, _<_}
 use native.Mathlib.Omega.{arith}
 use lib.IntN.{ℤ, pos, natAbs, _*ℤ_}
 use Rattle.numbers.proofs.Parts.{ints, parts-abs, parts-times}
@@ -7,24 +7,25 @@ use Rattle.numbers.proofs.Chain.{plain, literal, add, sub, mul}
 use Rattle.roots.proofs.RoundLaws.{round-size}
 use Rattle.adjust.specs.declared.Section.{Section}
 use Rattle.adjust.specs.declared.heights.Known.{Known}
+use Rattle.adjust.specs.Sizes.{highest, mostD, mostT, mostSumQ, mostL, mostW, mostPrinted}
 use Rattle.adjust.specs.Line.{exactTop, printedHeight, accidental}
 use Rattle.adjust.specs.Frames.{frame}
 use Rattle.adjust.specs.Bounds.{Framed, LegBounds}
 
-module _ (f : Known) (q s : ℤ) (h : Framed f) (hq : natAbs q ≤ 3200000000) (hs : natAbs s ≤ 76800000) where
-  exact-size : natAbs (exactTop (frame f) q s) ≤ 499814399078400000
+module _ (f : Known) (q s : ℤ) (h : Framed f) (hq : natAbs q ≤ mostSumQ) (hs : natAbs s ≤ mostL) where
+  exact-size : natAbs (exactTop (frame f) q s) ≤ (4 * highest + mostSumQ + mostW) * mostL
   exact-size =
       let total = plain (f .total) (h .total) in
       mul (literal (pos 1))
       (sub (add (mul (mul (literal (pos 4)) (plain (f .start) (h .start))) total) (mul (plain q hq) total)) (mul (plain (f .closing) (h .closing)) (plain s hs))) .size
 
-  pub printed-size : natAbs (printedHeight (frame f) q s) ≤ 499999999999999999
+  pub printed-size : natAbs (printedHeight (frame f) q s) ≤ mostPrinted
   printed-size =
       let long : 0 < natAbs (pos 4 *ℤ f .total) = omega (ints, h .long, parts-times 4 (f .total), parts-abs (pos 4 *ℤ f .total)) in
       omega (arith, round-size (exactTop (frame f) q s) (natAbs (pos 4 *ℤ f .total)) long, exact-size)
 
 -- t of a section in the wider range
-pub accidental-size : (x : Section) → natAbs (x .discrepancy) ≤ 100000 → LegBounds x → natAbs (accidental x) ≤ 5000000000000001
+pub accidental-size : (x : Section) → natAbs (x .discrepancy) ≤ mostD → LegBounds x → natAbs (accidental x) ≤ mostT
 accidental-size x d h =
     let long : 0 < natAbs (x .distance) = omega (ints, h .long, parts-abs (x .distance)) in
     let top = mul (literal (pos 500000)) (mul (plain (x .discrepancy) d) (plain (x .discrepancy) d)) in

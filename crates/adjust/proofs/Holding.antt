@@ -1,17 +1,16 @@
 -- A list of sections in arrays: it is read back, arrays that hold their own list are unchanged, and one section more is one store in each array.
 use mathlib.Core.Path.{_≡_, refl, sym, ap, _∙_}
-use mathlib.Core.List.{List, [], _∷_, _++_, map, append-assoc}
+use mathlib.Core.List.{List, [], _∷_, _++_, map, append-assoc, map-append}
 use Prim.Native.Nat.{ℕ, zero, suc, _+_, _≤_, _<_}
-use native.Mathlib.Numerals.{add-one}
 use native.Mathlib.Omega.{arith}
 use lib.ListN.{length, getD, set, drop, length-append, length-map}
-use lib.Seq.{drop-cons}
 use lib.IntN.{ℤ, pos}
+use Rattle.numbers.specs.Whole.{over}
+use Rattle.numbers.proofs.Arrays.{drop-next, over-next, over-again}
 use Rattle.adjust.specs.declared.Section.{Section}
 use Rattle.adjust.specs.declared.Sections.{Sections}
-use Rattle.adjust.specs.Sections.{sectionAt, sectionsFrom, sectionsOf, over, holding}
+use Rattle.adjust.specs.Sections.{sectionAt, sectionsFrom, sectionsOf, holding}
 use Rattle.adjust.proofs.Lists.{from-length}
-use Rattle.adjust.proofs.Over.{over-next, over-again}
 
 -- the arrays have 64 places each, as the type says
 pub record Whole (s : Sections) : Type 0 where
@@ -19,10 +18,6 @@ pub record Whole (s : Sections) : Type 0 where
   pub heights : length (s .heights) ≡ 64
   pub distances : length (s .distances) ≡ 64
   pub discrepancies : length (s .discrepancies) ≡ 64
-
-pub map-append : {A B : Type 0} (f : A → B) (xs ys : List A) → map f (xs ++ ys) ≡ map f xs ++ map f ys
-map-append f [] ys = refl
-map-append f (x ∷ xs) ys = ap (λ (l : List _). f x ∷ l) (map-append f xs ys)
 
 -- ---- the list is read back
 
@@ -61,8 +56,7 @@ module _ (s : Sections) (f : Section → ℤ) (a : List ℤ) (e : (k : ℕ) → 
   own-from k (suc n) h =
       (λ i. e k i ∷ (map f (sectionsFrom s (k + 1) n) ++ drop (shift i) a))
       ∙ ap (λ (l : List ℤ). getD a k (pos 0) ∷ l) (own-from (k + 1) n (omega arith))
-      ∙ ap (λ (m : ℕ). getD a k (pos 0) ∷ drop m a) (add-one k)
-      ∙ sym (drop-cons a k (pos 0) (omega arith))
+      ∙ sym (drop-next a k (pos 0) (omega arith))
     where
       shift : k + suc n ≡ k + 1 + n
       shift = omega arith

@@ -6,50 +6,45 @@ use mathlib.Core.List.{List, _∷_}
 use Prim.Native.Nat.{ℕ, zero, suc, _+_, _≤_, _<_, min}
 use native.Mathlib.Decide.{decLe}
 use native.Mathlib.Nat.{lt-of-not-le}
-use native.Mathlib.Numerals.{add-one}
 use native.Mathlib.Omega.{arith}
 use borrow.Author.Tests.{lt-ltb, lt-leb}
 use lib.Dec.{eqb}
-use lib.ListN.{length, getD, take, drop, replicate, length-map, List·getD-map}
-use lib.Seq.{drop-cons, take-length}
+use lib.ListN.{length, getD, take, drop, length-map, getD-replicate, List·getD-map}
+use lib.Seq.{take-length}
 use lib.IntN.{ℤ, pos}
-use Rattle.numbers.specs.Whole.{filled}
+use Rattle.numbers.specs.Whole.{filled, over}
+use Rattle.numbers.proofs.Arrays.{drop-next}
 use Rattle.numbers.proofs.Filled.{filled-length, filled-take}
 use Rattle.adjust.specs.declared.Section.{Section}
 use Rattle.adjust.specs.declared.entry.Leg.{Leg}
-use Rattle.adjust.specs.Sections.{sectionAt, sectionsFrom, sectionsOf, over}
+use Rattle.adjust.specs.Sections.{sectionAt, sectionsFrom, sectionsOf}
 use Rattle.adjust.specs.Call.{numberOf, answerOf, adjustRefusal, adjustedHeights, heightsAfter}
 use Rattle.adjust.specs.Legs.{legSection, legSections, noLeg, gathered, legTable}
 use Rattle.adjust.proofs.Lists.{from-length}
 
 -- ---- up to 64
 
-all-same : {A : Type 0} (a : A) (n k : ℕ) → getD (replicate n a) k a ≡ a
-all-same a zero k = refl
-all-same a (suc n) zero = refl
-all-same a (suc n) (suc k) = all-same a n k
-
-leg-at : (xs : List Leg) (count k : ℕ) → sectionAt (legTable xs count) k ≡ legSection (getD xs k noLeg)
-leg-at xs count k =
+leg-at : (xs : List Leg) (count k : ℕ) → k < 64 → sectionAt (legTable xs count) k ≡ legSection (getD xs k noLeg)
+leg-at xs count k h =
     λ i.
     record {
-      number = all-same (pos 0) 64 k i;
+      number = getD-replicate 64 k (pos 0) (pos 0) h i;
       height = List·getD-map (λ (x : Leg). x .height) xs k noLeg i;
       distance = List·getD-map (λ (x : Leg). x .distance) xs k noLeg i;
-      discrepancy = all-same (pos 0) 64 k i;
+      discrepancy = getD-replicate 64 k (pos 0) (pos 0) h i;
     }
 
-legs-from : (xs : List Leg) (count k n : ℕ) → k + n ≤ length xs → sectionsFrom (legTable xs count) k n ≡ legSections (take n (drop k xs))
+legs-from : (xs : List Leg) (count k n : ℕ) → length xs ≡ 64 → k + n ≤ 64 → sectionsFrom (legTable xs count) k n ≡ legSections (take n (drop k xs))
 unfolding sectionsFrom
-legs-from xs count k zero h = refl
-legs-from xs count k (suc n) h =
-    (λ i. leg-at xs count k i ∷ legs-from xs count (k + 1) n (omega arith) i)
-    ∙ sym (ap (λ (l : List Leg). legSections (take (suc n) l)) (drop-cons xs k noLeg (omega arith) ∙ ap (λ (m : ℕ). getD xs k noLeg ∷ drop m xs) (sym (add-one k))))
+legs-from xs count k zero e h = refl
+legs-from xs count k (suc n) e h =
+    (λ i. leg-at xs count k (omega arith) i ∷ legs-from xs count (k + 1) n e (omega arith) i)
+    ∙ sym (ap (λ (l : List Leg). legSections (take (suc n) l)) (drop-next xs k noLeg (omega arith)))
 
 -- the sections gathered from a list of up to 64 legs are its sections
 pub gathered-sections : (xs : List Leg) → length xs ≤ 64 → sectionsOf (legTable (gathered xs (length xs)) (length xs)) ≡ legSections xs
 gathered-sections xs h =
-    legs-from (gathered xs (length xs)) (length xs) 0 (length xs) (omega (arith, filled-length noLeg 64 (take (length xs) xs)))
+    legs-from (gathered xs (length xs)) (length xs) 0 (length xs) (filled-length noLeg 64 (take (length xs) xs)) (omega arith)
     ∙ ap legSections (ap (λ (l : List Leg). take (length xs) (filled noLeg 64 l)) (take-length xs) ∙ filled-take noLeg 64 xs h)
 
 -- ---- more than 64

@@ -4,7 +4,6 @@ pub mod Lines
 pub mod Lists
 pub mod Bounded
 pub mod Sized
-pub mod Over
 pub mod Holding
 pub mod Lent
 pub mod Refused

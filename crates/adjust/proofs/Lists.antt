@@ -15,7 +15,9 @@ use Rattle.numbers.proofs.Parts.{ints, parts-abs, test-le}
 use Rattle.numbers.proofs.Sizes.{within-size}
 use Rattle.adjust.specs.declared.Section.{Section}
 use Rattle.adjust.specs.declared.Sections.{Sections}
+use Rattle.adjust.specs.Sizes.{mostQ, mostR, mostD}
 use Rattle.adjust.specs.Sections.{sectionAt, sectionsFrom, sectionsOf, legInRange, legFits, sectionFits}
+use Rattle.adjust.specs.Line.{Frame, pointsAfter}
 use Rattle.adjust.specs.Bounds.{LegBounds}
 
 -- ---- the sections from place k on, which a loop has still to visit
@@ -56,12 +58,12 @@ Fit xs = All legFits xs
 
 pub leg-bounds : (x : Section) → legFits x ≡ true → LegBounds x
 leg-bounds x e =
-    let q = within (x .height) 50000000 in
-    let r = and-r q (between (pos 1) (x .distance) (pos 1200000)) e in
-    let low : pos 1 ≤ℤ x .distance = test-le (and-l (leZ (pos 1) (x .distance)) (leZ (x .distance) (pos 1200000)) r) in
-    let high : x .distance ≤ℤ pos 1200000 = test-le (and-r (leZ (pos 1) (x .distance)) (leZ (x .distance) (pos 1200000)) r) in
+    let q = within (x .height) mostQ in
+    let r = and-r q (between (pos 1) (x .distance) (pos mostR)) e in
+    let low : pos 1 ≤ℤ x .distance = test-le (and-l (leZ (pos 1) (x .distance)) (leZ (x .distance) (pos mostR)) r) in
+    let high : x .distance ≤ℤ pos mostR = test-le (and-r (leZ (pos 1) (x .distance)) (leZ (x .distance) (pos mostR)) r) in
     record {
-      height = within-size (x .height) 50000000 (and-l q (between (pos 1) (x .distance) (pos 1200000)) e);
+      height = within-size (x .height) mostQ (and-l q (between (pos 1) (x .distance) (pos mostR)) e);
       long = low;
       distance = omega (ints, parts-abs (x .distance));
     }
@@ -74,13 +76,19 @@ fit-tail x xs e = all-tail legFits x xs e
 
 -- ranges that lie in it
 pub fitted-legs : (xs : List Section) → All sectionFits xs → Fit xs
-fitted-legs xs e = all-weaken sectionFits legFits (λ x h. and-l (legFits x) (within (x .discrepancy) 100000) h) xs e
+fitted-legs xs e = all-weaken sectionFits legFits (λ x h. and-l (legFits x) (within (x .discrepancy) mostD) h) xs e
 
 pub strict-legs : (xs : List Section) → All legInRange xs → Fit xs
 strict-legs xs e = all-weaken legInRange legFits wider xs e
   where
     wider : (x : Section) → legInRange x ≡ true → legFits x ≡ true
     wider x h =
-        let r = between (pos 1) (x .distance) (pos 1200000) in
+        let r = between (pos 1) (x .distance) (pos mostR) in
         let q : natAbs (x .height) ≤ 2500000 = within-size (x .height) 2500000 (and-l (within (x .height) 2500000) r h) in
-        (λ i. le-leb (natAbs (x .height)) 50000000 (omega arith) i && and-r (within (x .height) 2500000) r h i)
+        (λ i. le-leb (natAbs (x .height)) mostQ (omega arith) i && and-r (within (x .height) 2500000) r h i)
+
+-- ---- a point for each section
+
+pub points-length : (f : Frame) (q s h : ℤ) (ss : List Section) → length (pointsAfter f q s h ss) ≡ length ss
+points-length f q s h [] = refl
+points-length f q s h (x ∷ xs) = ap suc (points-length f _ _ _ xs)

@@ -15,6 +15,7 @@ use Rattle.numbers.proofs.Tables.{failed}
 use Rattle.numbers.proofs.Chain.{plain, literal, add, sub, mul}
 use Rattle.adjust.specs.declared.Section.{Section}
 use Rattle.adjust.specs.declared.Sections.{Sections}
+use Rattle.adjust.specs.Sizes.{highest, mostQ, mostR, mostSumQ}
 use Rattle.adjust.specs.Sections.{sectionsOf, anyOutside, misfit, heightInRange}
 use Rattle.adjust.specs.Line.{lineHeight, lineLength, closure}
 use Rattle.adjust.specs.Frames.{figuresFit}
@@ -22,11 +23,11 @@ use Rattle.adjust.specs.Call.{adjustTests, adjustRefusal}
 use Rattle.adjust.specs.Bounds.{Fitted, Between, Framed}
 use Rattle.adjust.proofs.Lists.{Fit, fit-head, fit-tail, fitted-legs, strict-legs, from-length}
 
-pub height-size : (xs : List Section) → Fit xs → natAbs (lineHeight xs) ≤ 50000000 * length xs
+pub height-size : (xs : List Section) → Fit xs → natAbs (lineHeight xs) ≤ mostQ * length xs
 height-size [] f = omega arith
 height-size (x ∷ xs) f = omega (arith, abs-add (x .height) (lineHeight xs), fit-head x xs f .height, height-size xs (fit-tail x xs f))
 
-pub length-size : (xs : List Section) → Fit xs → natAbs (lineLength xs) ≤ 1200000 * length xs
+pub length-size : (xs : List Section) → Fit xs → natAbs (lineLength xs) ≤ mostR * length xs
 length-size [] f = omega arith
 length-size (x ∷ xs) f = omega (arith, abs-add (x .distance) (lineLength xs), fit-head x xs f .distance, length-size xs (fit-tail x xs f))
 
@@ -35,17 +36,17 @@ pub long : (xs : List Section) → Fit xs → pos (length xs) ≤ℤ lineLength 
 long [] f = omega ints
 long (x ∷ xs) f = omega (ints, parts-add (x .distance) (lineLength xs), fit-head x xs f .long, long xs (fit-tail x xs f))
 
-pub in-range : (h : ℤ) → heightInRange h ≡ true → natAbs h ≤ 8999999
+pub in-range : (h : ℤ) → heightInRange h ≡ true → natAbs h ≤ highest
 in-range h e =
-    let low : negℤ (pos 999999) ≤ℤ h = test-le (and-l (leZ (negℤ (pos 999999)) h) (leZ h (pos 8999999)) e) in
-    let high : h ≤ℤ pos 8999999 = test-le (and-r (leZ (negℤ (pos 999999)) h) (leZ h (pos 8999999)) e) in
+    let low : negℤ (pos 999999) ≤ℤ h = test-le (and-l (leZ (negℤ (pos 999999)) h) (leZ h (pos highest)) e) in
+    let high : h ≤ℤ pos highest = test-le (and-r (leZ (negℤ (pos 999999)) h) (leZ h (pos highest)) e) in
     omega (ints, parts-abs h)
 
 module _ {start end : ℤ} {s : Sections} (b : Between start end s) where
   pub framed : Framed (record { start = start; closing = closure start end (sectionsOf s); total = lineLength (sectionsOf s) })
   framed =
       let n = from-length s 0 (s .count) in
-      let h : natAbs (lineHeight (sectionsOf s)) ≤ 3200000000 = omega (arith, n, height-size (sectionsOf s) (b .fits .legs), b .fits .few) in
+      let h : natAbs (lineHeight (sectionsOf s)) ≤ mostSumQ = omega (arith, n, height-size (sectionsOf s) (b .fits .legs), b .fits .few) in
       record {
         start = b .start-size;
         closing = sub (add (mul (literal (pos 4)) (plain start (b .start-size))) (plain (lineHeight (sectionsOf s)) h)) (mul (literal (pos 4)) (plain end (b .end-size))) .size;

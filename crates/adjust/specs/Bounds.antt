@@ -10,6 +10,7 @@ use Rattle.adjust.specs.declared.Sections.{Sections}
 use Rattle.adjust.specs.declared.sums.Sums.{Sums}
 use Rattle.adjust.specs.declared.heights.Known.{Known}
 use Rattle.adjust.specs.declared.heights.Progress.{Progress}
+use Rattle.adjust.specs.Sizes.{highest, mostQ, mostR, mostL, mostW, mostPrinted}
 use Rattle.adjust.specs.Sections.{sectionsOf, legFits, anyOutside}
 
 -- at most 64 sections, Q and R of each in the wider range
@@ -22,32 +23,32 @@ pub record Fitted (s : Sections) : Type 0 where
   pub few : s .count ≤ 64
   pub sections : anyOutside false (sectionsOf s) ≡ false
 
--- at least one section, and both known heights in their range
+-- at least one section, and both known heights of at most 8,999,999 either way
 pub record Between (start end : ℤ) (s : Sections) : Type 0 where
   pub some : 1 ≤ s .count
   pub fits : Fits s
-  pub start-size : natAbs start ≤ 8999999
-  pub end-size : natAbs end ≤ 8999999
+  pub start-size : natAbs start ≤ highest
+  pub end-size : natAbs end ≤ highest
 
 pub record LegBounds (x : Section) : Type 0 where
-  pub height : natAbs (x .height) ≤ 50000000
+  pub height : natAbs (x .height) ≤ mostQ
   pub long : pos 1 ≤ℤ x .distance
-  pub distance : natAbs (x .distance) ≤ 1200000
+  pub distance : natAbs (x .distance) ≤ mostR
 
 -- the sums of up to k sections
 pub record Summed (k : ℕ) (t : Sums) : Type 0 where
-  pub height : natAbs (t .height) ≤ 50000000 * k
-  pub distance : natAbs (t .distance) ≤ 1200000 * k
+  pub height : natAbs (t .height) ≤ mostQ * k
+  pub distance : natAbs (t .distance) ≤ mostR * k
 
--- the known heights, and W and L, of up to 64 sections
+-- the known height at the start, and W and L, of up to 64 sections
 pub record Framed (f : Known) : Type 0 where
-  pub start : natAbs (f .start) ≤ 8999999
-  pub closing : natAbs (f .closing) ≤ 3271999992
-  pub total : natAbs (f .total) ≤ 76800000
+  pub start : natAbs (f .start) ≤ highest
+  pub closing : natAbs (f .closing) ≤ mostW
+  pub total : natAbs (f .total) ≤ mostL
   pub long : pos 1 ≤ℤ f .total
 
 -- the running sums and the last height after k of up to 64 sections
 pub record Reached (k : ℕ) (w : Progress) : Type 0 where
-  pub height : natAbs (w .height) ≤ 50000000 * k
-  pub distance : natAbs (w .point .distance) ≤ 1200000 * k
-  pub printed : natAbs (w .point .height) ≤ 499999999999999999
+  pub height : natAbs (w .height) ≤ mostQ * k
+  pub distance : natAbs (w .point .distance) ≤ mostR * k
+  pub printed : natAbs (w .point .height) ≤ mostPrinted

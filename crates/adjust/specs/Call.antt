@@ -5,12 +5,13 @@ use Prim.Native.Nat.{ℕ}
 use lib.ListN.{length}
 use lib.Dec.{leb, ltb, eqb}
 use lib.IntN.{ℤ}
+use Rattle.numbers.specs.Whole.{over}
 use Rattle.numbers.specs.Tables.{firstOf}
 use Rattle.adjust.specs.declared.Section.{Section}
 use Rattle.adjust.specs.declared.Point.{Point}
 use Rattle.adjust.specs.declared.Answer.{Answer}
 use Rattle.adjust.specs.declared.Answer.the-variants.{Taken, Refused}
-use Rattle.adjust.specs.Sections.{over, anyOutside, heightInRange}
+use Rattle.adjust.specs.Sections.{anyOutside, heightInRange}
 use Rattle.adjust.specs.Line.{frameOf, sectionPoints}
 
 -- document 01's number of an answer, 0 for a call that is taken; and the answer with a number

@@ -1,4 +1,4 @@
--- The calls of this crate: what they give in the base's units, quarter mm printed in whole mm, and what they give where figures could not fit 64 bits.
+-- The calls of this crate: what they give in the base's units, quarter mm printed in whole mm, and zeros where there are no sections, too many, or numbers outside the ranges in which all figures fit 64 bits.
 use mathlib.Core.Bool.{Bool, cond, not, _&&_}
 use mathlib.Core.List.{List, []}
 use lib.ListN.{length}

@@ -1,3 +1,4 @@
+pub mod Sizes
 pub mod Sections
 pub mod Line
 pub mod Claims

@@ -1,13 +1,14 @@
 -- The sections of a line, as a list and in arrays.
 use mathlib.Core.Bool.{Bool, false, not, cond, _&&_, _||_}
-use mathlib.Core.List.{List, [], _∷_, _++_, map}
+use mathlib.Core.List.{List, [], _∷_, map}
 use Prim.Native.Nat.{ℕ, zero, suc, _+_}
-use lib.ListN.{length, getD, drop}
+use lib.ListN.{length, getD}
 use lib.Dec.{leb}
 use lib.IntN.{ℤ, pos, negℤ}
-use Rattle.numbers.specs.Whole.{within, between, anyOf}
+use Rattle.numbers.specs.Whole.{within, between, anyOf, over}
 use Rattle.adjust.specs.declared.Section.{Section}
 use Rattle.adjust.specs.declared.Sections.{Sections}
+use Rattle.adjust.specs.Sizes.{highest, mostQ, mostR, mostD}
 
 -- ---- in arrays
 
@@ -29,10 +30,6 @@ sectionsFrom s k (suc n) = sectionAt s k ∷ sectionsFrom s (k + 1) n
 abbrev pub sectionsOf : Sections → List Section
 sectionsOf s = sectionsFrom s 0 (s .count)
 
--- an array with its first places overwritten by a list; the others keep what they held
-abbrev pub over : {A : Type 0} → List A → List A → List A
-over xs ys = xs ++ drop (length xs) ys
-
 -- the arrays s with the list ss in them
 unfoldable pub holding : Sections → List Section → Sections
 holding s ss =
@@ -48,14 +45,14 @@ holding s ss =
 
 -- document 01's range of Q and R in the adjustment call (refusal 12)
 abbrev pub legInRange : Section → Bool
-legInRange x = within (x .height) 2500000 && between (pos 1) (x .distance) (pos 1200000)
+legInRange x = within (x .height) 2500000 && between (pos 1) (x .distance) (pos mostR)
 
 -- A wider range, in which all figures of up to 64 sections fit 64 bits. No section of a book made by calls is outside it.
 abbrev pub legFits : Section → Bool
-legFits x = within (x .height) 50000000 && between (pos 1) (x .distance) (pos 1200000)
+legFits x = within (x .height) mostQ && between (pos 1) (x .distance) (pos mostR)
 
 abbrev pub sectionFits : Section → Bool
-sectionFits x = legFits x && within (x .discrepancy) 100000
+sectionFits x = legFits x && within (x .discrepancy) mostD
 
 -- outside document 01's range, or outside the wider one
 abbrev pub outside : Bool → Section → Bool
@@ -81,4 +78,4 @@ abbrev pub misfitIn : ℕ → List ℤ → List ℤ → List ℤ → Bool
 misfitIn count hs ds es = not (leb count (length hs)) || not (leb count (length ds)) || not (leb count (length es)) || misfit (sectionsOf (lent count hs ds es))
 
 abbrev pub heightInRange : ℤ → Bool
-heightInRange h = between (negℤ (pos 999999)) h (pos 8999999)
+heightInRange h = between (negℤ (pos 999999)) h (pos highest)

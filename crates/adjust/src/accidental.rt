@@ -4,6 +4,7 @@ ghost use mathlib.Core.List.{map};
 ghost use Prim.Native.Nat.{_≤_};
 ghost use lib.IntN.{natAbs, _+ℤ_};
 ghost use Rattle.numbers.specs.Whole.{sum};
+ghost use Rattle.adjust.specs.Sizes.{mostD, mostSumT};
 ghost use Rattle.adjust.specs.Sections.{sectionsOf};
 ghost use Rattle.adjust.specs.Line.{accidental, accidentalSum, verdict};
 ghost use Rattle.adjust.specs.Bounds.{Fitted, LegBounds};
@@ -20,7 +21,7 @@ struct Total {
 
 // t of one section more.
 fn with_square(t: Total, x: Section) -> Total
-    requires { ⌜ (natAbs (t .squares) ≤ 400000000000000000) × (natAbs (x .discrepancy) ≤ 100000) × LegBounds x ⌝ }
+    requires { ⌜ (natAbs (t .squares) ≤ mostSumT) × (natAbs (x .discrepancy) ≤ mostD) × LegBounds x ⌝ }
     ensures { λ r. ⌜ r ≡ record { squares = t .squares +ℤ accidental x } ⌝ }
 {
     let d = x.discrepancy;

@@ -1,5 +1,5 @@
 // The adjustment call over a lent list of sections, for C and Rust. `gather` and `level_adjust` hold the lent list and are proved by hand: they
-// copy and call. All that is decided is decided in functions on values.
+// copy and call. All that is decided is decided in covered functions.
 ghost use mathlib.Core.Path.{_≡_};
 ghost use Prim.Native.Nat.{_≤_, min};
 ghost use lib.ListN.{length};
@@ -70,7 +70,7 @@ fn table_of(legs: [Leg; 64], count: usize) -> Sections
     }
 }
 
-// Document 01's number of an answer, 0 for a call that is taken.
+// Document 01's number of an answer by `numberOf`, 0 for a call that is taken.
 pub fn number_of(a: Answer) -> u8
     ensures { λ r. ⌜ r ≡ numberOf a ⌝ }
 {

@@ -4,6 +4,7 @@ ghost use mathlib.Core.List.{[], _∷_};
 ghost use Prim.Native.Nat.{_≤_, _<_};
 ghost use lib.IntN.{natAbs, _+ℤ_};
 ghost use Rattle.numbers.specs.Whole.{filled};
+ghost use Rattle.adjust.specs.Sizes.{mostSumQ, mostL};
 ghost use Rattle.adjust.specs.Sections.{sectionsOf};
 ghost use Rattle.adjust.specs.Line.{closure, lineLength, exactTop, printedHeight, pointAfter, points};
 ghost use Rattle.adjust.specs.Frames.{frame, noPoint};
@@ -43,14 +44,14 @@ struct Progress {
 
 // 4 * L times the exact height at the running sums q of Q and s of R.
 fn exact_top(f: Known, q: i64, s: i64) -> i64
-    requires { ⌜ Framed f × (natAbs q ≤ 3200000000) × (natAbs s ≤ 76800000) ⌝ }
+    requires { ⌜ Framed f × (natAbs q ≤ mostSumQ) × (natAbs s ≤ mostL) ⌝ }
     ensures { λ r. ⌜ r ≡ exactTop (frame f) q s ⌝ }
 {
     4 * f.start * f.total + q * f.total - f.closing * s
 }
 
 fn printed_height(f: Known, q: i64, s: i64) -> i64
-    requires { ⌜ Framed f × (natAbs q ≤ 3200000000) × (natAbs s ≤ 76800000) ⌝ }
+    requires { ⌜ Framed f × (natAbs q ≤ mostSumQ) × (natAbs s ≤ mostL) ⌝ }
     ensures { λ r. ⌜ r ≡ printedHeight (frame f) q s ⌝ }
 {
     round_half_even(exact_top(f, q, s), 4 * f.total)

@@ -79,7 +79,7 @@ pub fn height_in_range(h: i64) -> bool
     (-999999 <= h) & (h <= 8999999)
 }
 
-// Whether the figures of these sections between these heights fit 64 bits.
+// Whether there are 1 to 64 sections in the wider range, between heights in theirs: then all figures fit 64 bits.
 fn figures_fit(start: i64, end: i64, s: Sections) -> bool
     ensures { λ r. ⌜ r ≡ figuresFit start end (sectionsOf s) ⌝ }
 {
@@ -87,7 +87,7 @@ fn figures_fit(start: i64, end: i64, s: Sections) -> bool
     (0 < s.count) & !misfit & height_in_range(start) & height_in_range(end)
 }
 
-// W and L of the sections between two known heights; zeros where the figures could not fit.
+// W and L of the sections between two known heights; zeros where `figures_fit` fails.
 pub fn totals_of(start: i64, end: i64, s: Sections) -> Totals
     ensures { λ r. ⌜ r ≡ totalsIfFit start end (sectionsOf s) ⌝ }
 {
@@ -126,7 +126,7 @@ fn closing_of(order: Order, start: Benchmark, end: i64, s: Sections) -> Adjusted
     }
 }
 
-// What closing the line gives: W, L, n, T, the verdict and the points; zeros where the figures could not fit.
+// What closing the line gives: W, L, n, T, the verdict and the points; zeros where `figures_fit` does not hold.
 pub fn adjusted_line(order: Order, start: Benchmark, end: i64, s: Sections) -> Adjusted
     ensures { λ r. ⌜ r ≡ adjustedIfFit order start end (sectionsOf s) ⌝ }
 {

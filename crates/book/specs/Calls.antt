@@ -90,7 +90,7 @@ Closes b number end r =
     (r ≡ closeOutcome b number end)
     × ((closeNumber (r .answer) ≡ n) × (closeValues (r .answer) ≡ cond (eqb n 0) (closingOf b end .summary ∷ []) []))
 
--- what a closing gave: its values and as many points
+-- what a closing gave: its values and its n + 1 points
 abbrev pub gaveOf : CloseOutcome → List Closing
 gaveOf o = map (λ (s : Summary). record { summary = s; points = take (s .count + 1) (o .points) }) (closeValues (o .answer))
 

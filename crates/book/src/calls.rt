@@ -114,7 +114,7 @@ pub fn close_line(b: Book, number: i64, end: i64) -> CloseOutcome
     }
 }
 
-// The figures of a closed book once more; zeros for another.
+// The figures of a closed book once more; zeros for another, and for a record whose sections or heights are out of range.
 pub fn figures_of(b: Book) -> Adjusted
     ensures { λ r. ⌜ r ≡ figuresOf b ⌝ }
 {

@@ -7,8 +7,8 @@ use borrow.Author.Tests.{eq-eqb, eqb-true, ne-eqb}
 use lib.Dec.{eqb}
 use lib.ListN.{length, drop, getD, drop-of-length-le}
 use Rattle.numbers.proofs.Tests.{by-test, holds, is-true}
+use Rattle.numbers.proofs.Arrays.{drop-next}
 use Rattle.columns.specs.Decimals.{same}
-use Rattle.columns.proofs.Lists.{drop-next}
 
 -- of two tests of which the second is made where the first holds
 pub both : (a b : Bool) → cond a b false ≡ true → (a ≡ true) × (b ≡ true)

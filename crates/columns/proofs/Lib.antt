@@ -1,4 +1,4 @@
--- What other crates cite: Put (blocks in a buffer), Fields, RoundTrip and Texts (reading and writing undo each other), Lines and Records. The others serve these.
+-- What other crates cite: Put (a block where there is room for it), Fields, RoundTrip and Texts (reading and writing undo each other), Lines and Records. The others serve these.
 pub mod Lists
 pub mod Compare
 pub mod Digits

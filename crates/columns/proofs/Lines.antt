@@ -10,14 +10,14 @@ use lib.IntN.{ℤ, pos, negℤ}
 use lib.Signed.{ltZ}
 use lib.ListN.{length, take, drop, getD, replicate, length-append, length-drop}
 use lib.Seq.{take-all, drop-append-le}
+use Rattle.numbers.specs.Whole.{putAt}
 use Rattle.numbers.proofs.Tests.{by-test, is-false}
 use Rattle.numbers.proofs.Parts.{ints, posPart, negPart, parts-abs, test-ge}
-use Rattle.columns.specs.Buffers.{putAt}
+use Rattle.numbers.proofs.Arrays.{put-after, drop-next}
 use Rattle.columns.specs.Decimals.{blanks, fitsIn, pad}
 use Rattle.columns.specs.Lines.{lineEnd, lineWith, widthOf, fields, allFit, columnsOf, lineFits, tagLine, isWide, title}
-use Rattle.columns.proofs.Lists.{drop-next, left-next}
+use Rattle.columns.proofs.Lists.{left-next}
 use Rattle.columns.proofs.Compare.{both}
-use Rattle.columns.proofs.Put.{put-after}
 use Rattle.columns.proofs.Fields.{length-blanks, length-pad, fits-within}
 
 -- ---- the columns of fields

@@ -1,14 +1,10 @@
--- What loops and parts of slices ask of lists: the element at an index, what a loop has left, and `&l[i..]`.
-use mathlib.Core.Path.{_≡_, sym, ap, _∙_}
-use mathlib.Core.List.{List, _∷_}
+-- What loops and parts of slices ask of lists: what a loop has left, and `&l[i..]`.
+use mathlib.Core.Path.{_≡_}
+use mathlib.Core.List.{List}
 use Prim.Native.Nat.{ℕ, suc, _+_, _-_, _≤_, _<_}
-use native.Mathlib.Numerals.{add-one}
 use native.Mathlib.Omega.{arith}
-use lib.ListN.{length, take, drop, getD, length-drop}
-use lib.Seq.{drop-cons, take-all}
-
-pub drop-next : {A : Type 0} (l : List A) (i : ℕ) (z : A) → i < length l → drop i l ≡ getD l i z ∷ drop (i + 1) l
-drop-next l i z h = drop-cons l i z h ∙ ap (λ (m : ℕ). getD l i z ∷ drop m l) (sym (add-one i))
+use lib.ListN.{length, take, drop, length-drop}
+use lib.Seq.{take-all}
 
 -- what is left of n turns after i
 pub left-next : (n i : ℕ) → i < n → n - i ≡ suc (n - (i + 1))

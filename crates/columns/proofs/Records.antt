@@ -8,7 +8,8 @@ use lib.IntN.{ℤ}
 use lib.Dec.{lit≤, eqb}
 use lib.ListN.{length, take, drop, length-drop}
 use lib.Seq.{drop-drop}
-use Rattle.numbers.specs.Tables.{firstOf}
+use Rattle.numbers.specs.Tables.{firstOf, Lowest}
+use Rattle.numbers.proofs.Tables.{first-lowest}
 use Rattle.numbers.proofs.Tests.{by-test}
 use Rattle.columns.specs.declared.reader.Field.{Field}
 use Rattle.columns.specs.declared.reader.Field.the-variants.{Number, Bad}
@@ -19,7 +20,7 @@ use Rattle.columns.specs.declared.reader.Kind.the-variants.{Record, Refu
 use Rattle.columns.specs.declared.reader.Line.{Line}
 use Rattle.columns.specs.Decimals.{same, fieldOf}
 use Rattle.columns.specs.Lines.{lineEnd}
-use Rattle.columns.specs.Records.{letters, fieldCount, tags, tagAmong, isNumber, numberOf, allNumbers, numbersIn, refusedLine, recordLine, numbersLine, recordIn, lineOfKind, lineIn, kindNumber, kindTags, hasShape, hasNumbers, Parses}
+use Rattle.columns.specs.Records.{letters, fieldCount, tags, tagAmong, isNumber, numberOf, allNumbers, numbersIn, refusedLine, recordLine, numbersLine, recordIn, lineOfKind, lineIn, kindNumber, kindTags, hasShape, hasNumbers, lineTests, Parses}
 use Rattle.columns.proofs.Lists.{left-next, left-none}
 use Rattle.columns.proofs.Compare.{same-lengths}
 use Rattle.columns.proofs.Lines.{length-end}
@@ -143,3 +144,7 @@ parses l e =
         (kindNumber (lineOfKind k l .kind) ≡ n) × (kindTags (lineOfKind k l .kind) ≡ cond (eqb n 0) (kindTags k) [])
     go (Record t) f = answered t (numbersIn (fieldCount t) (drop 3 l)) (hasShape (Record t) l) (hasNumbers (Record t) l)
     go (Refused n) f = (other-tag tags (take 3 l) n f, refl)
+
+-- and it is the lowest of the two that applies
+pub line-lowest : (l : List ℕ) → Lowest (λ n. n) (lineTests l) (firstOf (lineTests l))
+line-lowest l = first-lowest (λ n. n) (lineTests l) 0 refl

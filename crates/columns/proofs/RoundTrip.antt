@@ -7,6 +7,7 @@ use native.Mathlib.Omega.{arith}
 use lib.IntN.{ℤ}
 use lib.ListN.{length, take, drop, length-take, length-drop, take-append-drop}
 use lib.Seq.{take-at, drop-at, take-add, drop-drop}
+use Rattle.numbers.specs.Whole.{putAt}
 use Rattle.numbers.proofs.Tests.{by-test, is-true, not-both}
 use Rattle.columns.specs.declared.reader.Field.{Field}
 use Rattle.columns.specs.declared.reader.Field.the-variants.{Number, Bad}
@@ -15,7 +16,6 @@ use Rattle.columns.specs.declared.reader.Tag.the-variants.{Lin, Sta, Run
 use Rattle.columns.specs.declared.reader.Kind.{Kind}
 use Rattle.columns.specs.declared.reader.Kind.the-variants.{Record, Refused}
 use Rattle.columns.specs.declared.reader.Line.{Line}
-use Rattle.columns.specs.Buffers.{putAt}
 use Rattle.columns.specs.Decimals.{fitsIn, pad, same, fieldOf}
 use Rattle.columns.specs.Lines.{lineEnd, lineWith, widthOf, fields, allFit, lineFits, tagLine}
 use Rattle.columns.specs.Records.{letters, fieldCount, tags, tagAmong, isNumber, numberOf, allNumbers, numbersIn, zeros, refusedLine, recordLine, numbersLine, recordIn, lineOfKind, lineIn}
@@ -168,7 +168,7 @@ line-parts t l front end h =
 -- its numbers are the first of its values
 values-front : (n : ℕ) (zs : List ℤ) → length zs ≡ n → zs ≡ take n (putAt zeros 0 zs)
 unfolding putAt
-values-front n zs e = sym (take-at zs (drop (0 + length zs) zeros) n e)
+values-front n zs e = sym (take-at zs (drop (length zs) zeros) n e)
 
 refused-record : {k : ℕ} {t : Tag} → Refused k ≡ Record t → ⊥
 refused-record e = let o : _≡_ {A = ℕ} 0 1 = cc in omega arith

@@ -13,10 +13,10 @@ use mir.Syntax.{w64}
 use mir.Val.{SFits}
 use Rattle.numbers.proofs.Parts.{ints}
 use Rattle.numbers.proofs.Machine.{fits-as}
+use Rattle.numbers.proofs.Arrays.{drop-next}
 use Rattle.columns.specs.declared.reader.Field.the-variants.{Number, Bad}
 use Rattle.columns.specs.Decimals.{valueOf}
 use Rattle.columns.specs.Parser.{leadingBlanks, isDigit, allDigits, runOf, negated}
-use Rattle.columns.proofs.Lists.{drop-next}
 use Rattle.columns.proofs.Digits.{digit-yes}
 
 -- ---- blanks

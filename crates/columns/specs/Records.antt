@@ -7,6 +7,7 @@ use lib.Dec.{eqb}
 use lib.IntN.{ℤ, pos}
 use lib.ListN.{take, drop, replicate}
 use Rattle.numbers.specs.Tables.{firstOf}
+use Rattle.numbers.specs.Whole.{putAt}
 use Rattle.columns.specs.declared.reader.Field.{Field}
 use Rattle.columns.specs.declared.reader.Field.the-variants.{Number, Bad}
 use Rattle.columns.specs.declared.reader.Tag.{Tag}
@@ -14,7 +15,6 @@ use Rattle.columns.specs.declared.reader.Tag.the-variants.{Lin, Sta, Run
 use Rattle.columns.specs.declared.reader.Kind.{Kind}
 use Rattle.columns.specs.declared.reader.Kind.the-variants.{Record, Refused}
 use Rattle.columns.specs.declared.reader.Line.{Line}
-use Rattle.columns.specs.Buffers.{putAt}
 use Rattle.columns.specs.Decimals.{same, fieldOf}
 use Rattle.columns.specs.Lines.{lineEnd}
 

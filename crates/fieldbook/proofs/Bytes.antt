@@ -4,10 +4,12 @@ use mathlib.Core.Bool.{Bool, true, false, cond}
 use mathlib.Core.List.{List, [], _∷_, _++_, map}
 use Prim.Native.Nat.{ℕ, zero, suc, _+_, _*_, _≤_}
 use native.Mathlib.Omega.{arith}
-use lib.ListN.{length, drop, length-append, length-drop, length-map}
+use borrow.Author.Tests.{ltb-false}
+use lib.ListN.{length, take, drop, length-append, length-drop, length-map}
 use lib.IntN.{ℤ, pos, _*ℤ_}
 use Rattle.adjust.specs.declared.Point.{Point}
 use Rattle.adjust.specs.Line.{frameOf, Closing}
+use Rattle.adjust.proofs.Lists.{points-length}
 use Rattle.columns.specs.Decimals.{same}
 use Rattle.columns.specs.Lines.{fields, lineFits, lineWith, tagLine, isWide, heading}
 use Rattle.columns.specs.Texts.{linesBy, lines, joined}
@@ -16,10 +18,9 @@ use Rattle.rules.specs.declared.Stage.{Stage}
 use Rattle.rules.specs.declared.Stage.the-variants.{Fresh, Open, Closed}
 use Rattle.rules.specs.Standing.{isClosed}
 use Rattle.ledger.specs.Plain.{Reading, freshReading, sectionOf, figuresOf}
-use Rattle.ledger.proofs.Traced.{points-length}
 use Rattle.textbook.specs.Text.{Refusal, lineRefusals, refusalsFrom, readingAfter}
-use Rattle.fieldbook.specs.Report.{refLine, closedNumbers, pointNumbers, pointLine, openLine, closingLines, resultLines, reportOf, withoutHeading, reportLines, report}
-use Rattle.fieldbook.specs.Fits.{ReportFits}
+use Rattle.fieldbook.specs.Report.{refLine, closedNumbers, pointNumbers, pointLine, openLine, closingLines, resultLines, reportOf, withoutHeading, reportLines, report, tooLong, printedOf}
+use Rattle.fieldbook.specs.Fits.{ReportFits, PrintedFits}
 use Rattle.fieldbook.proofs.Size.{stageLines, waitingLines, least, lines-count}
 
 -- ---- lines of 84 bytes
@@ -115,3 +116,11 @@ lines-fit (l ∷ ls) h = go (same l heading)
 pub report-fits : ReportFits
 unfolding report lines
 report-fits text h = lines-fit (lines text) (omega (arith, text-lines (length text) text))
+
+pub printed-fits : PrintedFits
+printed-fits input n true = omega arith
+printed-fits input n false = go (tooLong (take n input)) refl
+  where
+    go : (b : Bool) → tooLong (take n input) ≡ b → length (cond b (refLine (record { line = 0; number = 9 })) (report (take n input))) ≤ 65536
+    go true e = omega (arith, ref-short (record { line = 0; number = 9 }))
+    go false e = report-fits (take n input) (ltb-false 65268 (length (take n input)) e)

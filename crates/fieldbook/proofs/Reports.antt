@@ -1,21 +1,21 @@
 -- The report of the reader's state is the report of the text.
 use mathlib.Core.Path.{_≡_, refl, sym, ap, subst, _∙_}
-use mathlib.Core.Bool.{Bool, true, not, cond}
+use mathlib.Core.Bool.{Bool, true, false, not, cond}
 use mathlib.Core.List.{List, [], _∷_, _++_, map}
 use Prim.Native.Nat.{ℕ, suc, _+_, _≤_, _<_}
 use native.Mathlib.Omega.{arith}
 use borrow.Author.Tests.{lt-ltb, le-ltb}
 use lib.Dec.{ltb, eqb}
-use lib.ListN.{length, length-map}
-use Rattle.numbers.specs.Whole.{anyOf}
+use lib.ListN.{length, length-map, take}
+use Rattle.numbers.specs.Whole.{anyOf, putAt}
+use Rattle.numbers.specs.Tables.{Lowest}
 use Rattle.numbers.proofs.Tests.{by-test, is-true}
-use Rattle.numbers.proofs.Tables.{number-cond, cond-of}
+use Rattle.numbers.proofs.Tables.{first-lowest, number-cond, cond-of}
 use Rattle.numbers.proofs.Filled.{filled-length}
 use Rattle.adjust.specs.declared.Point.{Point}
 use Rattle.adjust.specs.declared.Adjusted.{Adjusted}
 use Rattle.adjust.specs.Line.{Closing}
 use Rattle.adjust.specs.Frames.{noPoint}
-use Rattle.columns.specs.Buffers.{putAt}
 use Rattle.columns.specs.Decimals.{same}
 use Rattle.columns.specs.Lines.{heading, title}
 use Rattle.columns.specs.Records.{lineIn}
@@ -35,7 +35,7 @@ use Rattle.textbook.specs.declared.reading.State.{State}
 use Rattle.fieldbook.specs.declared.Reduced.{Reduced}
 use Rattle.fieldbook.specs.declared.Reduced.the-variants.{Written, Refused}
 use Rattle.textbook.specs.Text.{lineNext, lineRefusals, readingAfter, refusalsFrom, callsOf}
-use Rattle.fieldbook.specs.Report.{refLine, openLine, closingLines, resultLines, reportOf, withoutHeading, reportLines, report, textRefusal, bufferAfter, reducedNumber, reducedLength, reducedAs, reducedOf, Reduces, printedFor, printedInto, printedLength}
+use Rattle.fieldbook.specs.Report.{refLine, openLine, closingLines, resultLines, reportOf, withoutHeading, reportLines, report, textTests, textRefusal, bufferAfter, reducedNumber, reducedLength, reducedAs, reducedOf, Reduces, printedFor, printedOf}
 use Rattle.fieldbook.specs.Fits.{closedFits, pointFits}
 use Rattle.textbook.specs.State.{lineCount, stateAfter}
 use Rattle.fieldbook.specs.Printed.{refusalBytes, closingIn, bookLines, stateLines, Printable}
@@ -168,6 +168,11 @@ module _ (t d : List ℕ) where
         ),
       )
 
+  -- 9 before 10
+  pub text-lowest : Lowest (λ n. n) (textTests t d) (textRefusal t d)
+  unfolding textRefusal
+  text-lowest = first-lowest (λ n. n) (textTests t d) 0 refl
+
   pub too-long : 65268 < length t → textRefusal t d ≡ 9
   unfolding textRefusal
   too-long h = rw (lt-ltb 65268 (length t) h)
@@ -180,21 +185,17 @@ module _ (t d : List ℕ) where
   unfolding textRefusal
   not-refused h g = rw (le-ltb 65268 (length t) h, le-ltb (length d) 65536 g)
 
-  -- what the program prints: nothing into a small buffer, REF 0 9, the report
-  pub prints-nothing : length d < 65536 → (printedLength t d ≡ 0) × (printedInto t d ≡ d)
-  unfolding printedLength printedInto
-  prints-nothing h =
-      let e = lt-ltb (length d) 65536 h in
-      (ap (λ (b : Bool). cond b 0 (length (printedFor t))) e, ap (λ (b : Bool). cond b d (putAt d 0 (printedFor t))) e)
-
-  pub prints : 65536 ≤ length d → (s : List ℕ) → printedFor t ≡ s → (printedLength t d ≡ length s) × (printedInto t d ≡ putAt d 0 s)
-  unfolding printedLength printedInto
-  prints h s p =
-      let e = le-ltb (length d) 65536 h in
-      (λ i. cond (e i) 0 (length (p i)), λ i. cond (e i) d (putAt d 0 (p i)))
+-- ---- the program
 
 pub prints-9 : (t : List ℕ) → 65268 < length t → printedFor t ≡ refusalBytes 0 9
 prints-9 t h = ap (λ (b : Bool). cond b (refusalBytes 0 9) (report t)) (lt-ltb 65268 (length t) h)
 
 pub prints-report : (t : List ℕ) → length t ≤ 65268 → printedFor t ≡ report t
 prints-report t h = ap (λ (b : Bool). cond b (refusalBytes 0 9) (report t)) (le-ltb 65268 (length t) h)
+
+module _ (input : List ℕ) (n : ℕ) where
+  pub prints-nothing : (failed : Bool) → failed ≡ true → printedOf input n failed ≡ []
+  prints-nothing failed e = ap (printedOf input n) e
+
+  pub prints-text : (failed : Bool) (s : List ℕ) → failed ≡ false → printedFor (take n input) ≡ s → printedOf input n failed ≡ s
+  prints-text failed s e p = ap (printedOf input n) e ∙ p

@@ -1,7 +1,7 @@
 -- Every line of a report has 84 bytes: no number is too large for its field.
 use mathlib.Core.Path.{_≡_, refl, sym, subst}
-use mathlib.Core.Bool.{Bool, true, false, cond}
-use mathlib.Core.List.{List, [], _∷_, _++_, map}
+use mathlib.Core.Bool.{Bool, true, false, cond, _&&_}
+use mathlib.Core.List.{List, [], _∷_, _++_, map, map-append}
 use Prim.Native.Nat.{ℕ, suc, _+_, _*_, _≤_}
 use native.Mathlib.Omega.{arith}
 use borrow.Author.Tests.{eq-eqb, leb-true}
@@ -13,7 +13,6 @@ use Rattle.numbers.proofs.Tests.{by-test, is-true}
 use Rattle.numbers.proofs.All.{All, all-head, all-tail, all-cons, all-append}
 use Rattle.ledger.proofs.Whole.{calls-kept}
 use Rattle.adjust.specs.declared.Point.{Point}
-use Rattle.adjust.proofs.Holding.{map-append}
 use Rattle.columns.specs.declared.reader.Tag.{Tag}
 use Rattle.columns.specs.declared.reader.Kind.{Kind}
 use Rattle.columns.specs.declared.reader.Kind.the-variants.{Record, Refused}

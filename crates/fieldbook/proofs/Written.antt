@@ -10,17 +10,18 @@ use lib.Dec.{eqb}
 use lib.IntN.{ℤ, pos}
 use lib.ListN.{length, getD, take, drop, length-append, length-take, drop-of-length-le}
 use lib.Seq.{getD-take}
+use Rattle.numbers.specs.Whole.{putAt}
 use Rattle.numbers.proofs.Tests.{by-test}
 use Rattle.numbers.proofs.All.{all-head, all-tail}
+use Rattle.numbers.proofs.Arrays.{length-putAt, put-after, put-all, drop-next}
 use Rattle.adjust.specs.declared.Point.{Point}
 use Rattle.adjust.specs.declared.Adjusted.{Adjusted}
 use Rattle.adjust.specs.Frames.{noPoint}
-use Rattle.columns.specs.Buffers.{putAt, placed}
+use Rattle.columns.specs.Buffers.{placed}
 use Rattle.columns.specs.Lines.{widthOf, allFit, columnsOf, lineFits, tagLine, isWide, title}
 use Rattle.columns.specs.Texts.{joined}
-use Rattle.columns.proofs.Put.{length-putAt, put-none, put-after, placed-room}
+use Rattle.columns.proofs.Put.{placed-room}
 use Rattle.columns.proofs.Lines.{length-line, length-title}
-use Rattle.columns.proofs.Lists.{drop-next}
 use Rattle.columns.proofs.Texts.{joined-append}
 use Rattle.rules.specs.declared.Book.{Book}
 use Rattle.rules.specs.Standing.{isClosed}
@@ -83,7 +84,7 @@ module _ {whole d₀ : List ℕ} {from : ℕ} {rest d : List ℕ} {at : ℕ} (l 
       }
 
   pub left-none : rest ≡ [] → (at ≡ from + length whole) × (d ≡ putAt d₀ from whole)
-  left-none e = (omega (arith, l .ends, ap length e), sym (put-none d at) ∙ ap (putAt d at) (sym e) ∙ l .put)
+  left-none e = (omega (arith, l .ends, ap length e), put-all d at e (l .put))
 
 -- ---- refusals
 
@@ -208,16 +209,9 @@ module _ (s : State) where
 
   pub state-put : (d : List ℕ) → putAt (putAt (putAt d 0 title) 84 refusals) (84 + length refusals) stands ≡ putAt d 0 (joined (stateLines s))
   state-put d =
-      ap (λ (x : List ℕ). putAt x (84 + length refusals) stands) first
-      ∙ ap (λ (k : ℕ). putAt (putAt d 0 (title ++ refusals)) k stands) (sym second)
+      let first : 84 ≡ 0 + length title = omega (arith, length-title) in
+      let second : 84 + length refusals ≡ 0 + length (title ++ refusals) = omega (arith, length-append title refusals, length-title) in
+      (λ i. putAt (putAt (putAt d 0 title) (first i) refusals) (second i) stands)
+      ∙ ap (λ (x : List ℕ). putAt x (0 + length (title ++ refusals)) stands) (put-after d 0 title refusals (omega arith))
       ∙ put-after d 0 (title ++ refusals) stands (omega arith)
       ∙ ap (putAt d 0) (append-assoc title refusals stands ∙ sym state-bytes)
-    where
-      e : length title ≡ 84 → 84 ≡ 0 + length title
-      e h = omega arith
-
-      first : putAt (putAt d 0 title) 84 refusals ≡ putAt d 0 (title ++ refusals)
-      first = ap (λ (k : ℕ). putAt (putAt d 0 title) k refusals) (e length-title) ∙ put-after d 0 title refusals (omega arith)
-
-      second : 0 + length (title ++ refusals) ≡ 84 + length refusals
-      second = omega (arith, length-append title refusals, length-title)

@@ -3,14 +3,14 @@ use mathlib.Core.Path.{_≡_}
 use mathlib.Core.Bool.{Bool, false, cond}
 use mathlib.Core.List.{List, [], _∷_, _++_, map}
 use Prim.Native.Nat.{ℕ}
-use lib.ListN.{length}
+use lib.ListN.{length, take}
 use lib.Dec.{eqb, ltb}
 use lib.IntN.{ℤ, pos}
+use Rattle.numbers.specs.Whole.{putAt}
 use Rattle.numbers.specs.Tables.{firstOf}
 use Rattle.adjust.specs.declared.Point.{Point}
 use Rattle.adjust.specs.declared.Summary.{Summary}
 use Rattle.adjust.specs.Line.{Closing}
-use Rattle.columns.specs.Buffers.{putAt}
 use Rattle.columns.specs.Decimals.{same}
 use Rattle.columns.specs.Lines.{tagLine, isWide, heading, title}
 use Rattle.columns.specs.Texts.{lines, joined}
@@ -114,13 +114,10 @@ Reduces text buffer r =
 
 -- ---- the program
 
--- what the program prints of a text: its report, or for 9 the single line REF 0 9, without a title
+-- what is printed of a text: its report, or for 9 the single line REF 0 9, without a title
 abbrev pub printedFor : List ℕ → List ℕ
 printedFor text = cond (tooLong text) (refLine (record { line = 0; number = 9 })) (report text)
 
--- the buffer with that at its beginning, and its length; nothing where the buffer is too small
-unfoldable pub printedInto : List ℕ → List ℕ → List ℕ
-printedInto text buffer = cond (tooSmall buffer) buffer (putAt buffer 0 (printedFor text))
-
-unfoldable pub printedLength : List ℕ → List ℕ → ℕ
-printedLength text buffer = cond (tooSmall buffer) 0 (length (printedFor text))
+-- what is printed of an input: of the text that its first n bytes are; nothing where a read failed, since they may be a part of the text only
+abbrev pub printedOf : List ℕ → ℕ → Bool → List ℕ
+printedOf input n failed = cond failed [] (printedFor (take n input))

@@ -5,9 +5,12 @@ use mathlib.Core.List as Lists
 use Prim.Native.Nat.{ℕ}
 use Prim.Native.Char.{code}
 use Prim.Native.String.{String, [], _∷_, _++_}
+use lib.IntN.{ℤ, pos, negsuc}
+use Rattle.numbers.specs.Whole.{putAt}
+use Rattle.columns.specs.declared.reader.Tag.{Tag}
+use Rattle.columns.specs.declared.reader.Tag.the-variants.{Lin, Sta, Run, End}
 use Rattle.roots.specs.Round.{roundEven}
 use Rattle.roots.specs.Limit.{isWithin}
-use Rattle.columns.specs.Buffers.{putAt}
 use Rattle.columns.specs.Decimals.{blanks, digitsBy, digits, decimal, fitsIn, pad, same, valueOf, hasMinus, candidate, fieldOf}
 use Rattle.columns.specs.Lines.{lineEnd, lineWith, widthOf, fields, allFit, columnsOf, lineFits, tagLine, isWide, heading, title}
 use Rattle.columns.specs.Records.{tagAmong, allNumbers, numbersIn, numbersLine, recordIn, lineIn}

@@ -1,7 +1,9 @@
 // The text book and its report: from the bytes of a text to the bytes of a report.
 ghost use mathlib.Core.Path.{_≡_};
-ghost use Rattle.fieldbook.specs.Report.{bufferAfter, reducedNumber, reducedLength, reducedOf, Reduces, printedInto, printedLength};
+ghost use Rattle.fieldbook.specs.Report.{bufferAfter, reducedNumber, reducedLength, reducedOf, Reduces, printedOf};
 use textbook::reader::read_text;
+ghost use lib.ListN.{length};
+ghost use Rattle.numbers.specs.Whole.{putAt};
 
 mod printing;
 
@@ -44,29 +46,31 @@ fn length_of(r: Reduced, old: usize) -> usize
     }
 }
 
-// What the program prints of a text, into a lent buffer: its length.
-pub fn print_text(text: &[u8], out: &mut [u8]) -> usize
-    ensures { λ n. ⌜ n ≡ printedLength (now (text .entry)) (now (out .entry)) ⌝ }
-    ensures { λ n. ⌜ now (out .exit) ≡ printedInto (now (text .entry)) (now (out .entry)) ⌝ }
+// What the program prints, into a buffer of its own: the length of the part to print. The first `count` bytes of `input` are what it read; of an
+// input that could not be read to its end nothing is printed.
+pub fn print_input(input: &[u8; 65269], count: usize, failed: bool, out: &mut [u8; 65536]) -> usize
+    ensures { λ n. ⌜ n ≡ length (printedOf (now (input .entry)) count failed) ⌝ }
+    ensures { λ n. ⌜ now (out .exit) ≡ putAt (now (out .entry)) 0 (printedOf (now (input .entry)) count failed) ⌝ }
 {
-    if out.len() < 65536 {
+    if failed {
         return 0;
     }
-    if 65268 < text.len() {
+    let bytes: &[u8] = input;
+    if 65268 < count {
         return printing::put_refusal(out, 0, 0, 9);
     }
-    let r = reduce_text(text, out);
+    let r = reduce_text(&bytes[..count], out);
     length_of(r, 0)
 }
 
-// `reduce_text` for C and Rust, where each list is a pointer and a length: document 01's number. The report's length goes into `length`.
+// `reduce_text` for C and Rust, where each list is a pointer and a length: document 01's number. The report's length goes into `written`.
 #[no_mangle]
-pub extern "C" fn level_reduce(text: &[u8], report: &mut [u8], length: &mut usize) -> u8
+pub extern "C" fn level_reduce(text: &[u8], report: &mut [u8], written: &mut usize) -> u8
     ensures { λ n. ⌜ n ≡ reducedNumber (reducedOf (now (text .entry)) (now (report .entry))) ⌝ }
     ensures { λ n. ⌜ now (report .exit) ≡ bufferAfter (now (text .entry)) (now (report .entry)) ⌝ }
-    ensures { λ n. ⌜ now (length .exit) ≡ reducedLength (reducedOf (now (text .entry)) (now (report .entry))) (now (length .entry)) ⌝ }
+    ensures { λ n. ⌜ now (written .exit) ≡ reducedLength (reducedOf (now (text .entry)) (now (report .entry))) (now (written .entry)) ⌝ }
 {
     let r = reduce_text(text, report);
-    *length = length_of(r, *length);
+    *written = length_of(r, *written);
     number_of(r)
 }

@@ -27,9 +27,10 @@ use Rattle.station.specs.declared.Figures.{Figures}
 use Rattle.station.specs.Station.{Staff, Station, stationOf, figuresOf, limitsOf, sight, faceDifference, twiceHeight, threadsInOrder, readingTests, readingRefusal}
 use Rattle.station.proofs.Sizes.{read}
 use Rattle.adjust.specs.declared.Section.{Section}
+use Rattle.adjust.specs.Sizes.{mostQ, mostR, mostD}
 use Rattle.adjust.specs.Sections.{sectionFits}
 use Rattle.rules.specs.declared.Run.{Run}
-use Rattle.rules.specs.Standing.{Standing, noRun, withStation, oneWay, bothWays, runFits}
+use Rattle.rules.specs.Standing.{Standing, noRun, withStation, oneWay, bothWays, runFits, mostG, mostS, mostDifference}
 use Rattle.rules.specs.Rules.{station, stateTests, discrepancyWithin, refusal}
 use Rattle.rules.proofs.Tables.{fails}
 
@@ -153,15 +154,15 @@ pub run-fits : (u : Run) → Sized u → runFits u ≡ true
 run-fits u h =
     rw (
       le-leb (u .count) 200 (h .count),
-      within-true (u .height) 25000000 (omega (arith, h .height, h .count)),
-      between-true {low = pos 0} {x = u .sights} {high = pos 600000} (omega (ints, h .low)) (omega (ints, h .high, h .count)),
-      within-true (u .difference) 1000000 (omega (arith, h .difference)),
+      within-true (u .height) mostG (omega (arith, h .height, h .count)),
+      between-true {low = pos 0} {x = u .sights} {high = pos mostS} (omega (ints, h .low)) (omega (ints, h .high, h .count)),
+      within-true (u .difference) mostDifference (omega (arith, h .difference)),
     )
 
-section-fits : (x : Section) → natAbs (x .height) ≤ 50000000 → pos 1 ≤ℤ x .distance → x .distance ≤ℤ pos 1200000 → natAbs (x .discrepancy) ≤ 100000
+section-fits : (x : Section) → natAbs (x .height) ≤ mostQ → pos 1 ≤ℤ x .distance → x .distance ≤ℤ pos mostR → natAbs (x .discrepancy) ≤ mostD
     → sectionFits x ≡ true
 section-fits x height low high discrepancy =
-    rw (within-true (x .height) 50000000 height, between-true low high, within-true (x .discrepancy) 100000 discrepancy)
+    rw (within-true (x .height) mostQ height, between-true low high, within-true (x .discrepancy) mostD discrepancy)
 
 pub one-way-fits : (number : ℤ) (u : Run) → Sized u → 0 < u .count → sectionFits (oneWay number u) ≡ true
 one-way-fits number u h k =
@@ -185,13 +186,13 @@ pub both-ways-fits : (number : ℤ) (out back : Run) → Sized out → Sized bac
     → discrepancyWithin (bothWays number out back) ≡ true → sectionFits (bothWays number out back) ≡ true
 both-ways-fits number out back h k few e =
     section-fits (bothWays number out back) (omega (arith, h .height, h .count, k .height, k .count, abs-sub (out .height) (back .height))) low high
-    (root-size 625 (out .height +ℤ back .height) 18 (out .sights +ℤ back .sights) 100000 (omega arith) e
+    (root-size 625 (out .height +ℤ back .height) 18 (out .sights +ℤ back .sights) mostD (omega arith) e
     (omega (ints, high, parts-times 18 (out .sights +ℤ back .sights))))
   where
     low : pos 1 ≤ℤ (out .sights +ℤ back .sights)
     low = omega (ints, h .low, k .low, parts-add (out .sights) (back .sights))
 
-    high : (out .sights +ℤ back .sights) ≤ℤ pos 1200000
+    high : (out .sights +ℤ back .sights) ≤ℤ pos mostR
     high = omega (ints, h .high, h .count, k .high, k .count, parts-add (out .sights) (back .sights))
 
 -- ---- sections are narrow

@@ -17,9 +17,11 @@ use Rattle.adjust.specs.declared.Point.{Point}
 use Rattle.adjust.specs.declared.Summary.{Summary}
 use Rattle.adjust.specs.declared.Adjusted.{Adjusted}
 use Rattle.adjust.specs.Sections.{sectionsOf}
-use Rattle.adjust.specs.Line.{Frame, pointsAfter, points, frameOf, Closing, closing}
+use Rattle.adjust.specs.Line.{points, frameOf, Closing, closing}
 use Rattle.adjust.specs.Frames.{noPoint, adjustedOf}
 use Rattle.adjust.specs.Call.{numberOf}
+use Rattle.adjust.proofs.Lists.{points-length}
+use Rattle.adjust.proofs.Refused.{number-of-answer}
 use Rattle.adjust.proofs.Holding.{sections-holding, holding-again}
 use Rattle.rules.specs.declared.Book.{Book}
 use Rattle.book.specs.declared.Change.{Change}
@@ -65,10 +67,6 @@ module _ (r : Reading) (k : Kept (standing r)) (c : Call) where
           ∙ ap (bookWith freshBook) (sym (follows r c))
 
 -- ---- what a closing gives
-
-pub points-length : (f : Frame) (q s h : ℤ) (ss : List Section) → length (pointsAfter f q s h ss) ≡ length ss
-points-length f q s h [] = refl
-points-length f q s h (x ∷ xs) = ap suc (points-length f _ _ _ xs)
 
 module _ (start end : ℤ) (number : ℤ) (ss : List Section) where
   -- the points, read back from an array with room for 64 sections

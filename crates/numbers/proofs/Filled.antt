@@ -1,37 +1,31 @@
 -- Arrays that hold a list and one value behind it: their length, one element more, and the list back again.
-use mathlib.Core.Path.{_≡_, refl, ap}
+use mathlib.Core.Path.{_≡_, ap, _∙_}
 use mathlib.Core.List.{List, [], _∷_, _++_}
-use Prim.Native.Nat.{ℕ, zero, suc, _<_, _≤_}
+use Prim.Native.Nat.{ℕ, _+_, _<_, _≤_}
 use native.Mathlib.Omega.{arith}
-use lib.ListN.{length, getD, set, take}
+use lib.ListN.{length, getD, set, take, drop, replicate, length-replicate}
+use lib.Seq.{take-append-seam}
 use Rattle.numbers.specs.Whole.{filled}
+use Rattle.numbers.proofs.Arrays.{over-full, written-fits, written-long, written-set, written-next}
 
-pub filled-length : {A : Type 0} (a : A) (n : ℕ) (xs : List A) → length (filled a n xs) ≡ n
-filled-length a zero xs = refl
-filled-length a (suc n) [] = ap suc (filled-length a n [])
-filled-length a (suc n) (x ∷ xs) = ap suc (filled-length a n xs)
+module _ {A : Type 0} (a : A) (n : ℕ) (xs : List A) where
+  abbrev places : List A
+  places = replicate n a
 
-pub filled-set : {A : Type 0} (a : A) (n : ℕ) (xs : List A) (x : A) → length xs < n → set (filled a n xs) (length xs) x ≡ filled a n (xs ++ (x ∷ []))
-filled-set a zero xs x h = absurd (omega arith)
-filled-set a (suc n) [] x h = refl
-filled-set a (suc n) (y ∷ ys) x h = ap (λ (l : List _). y ∷ l) (filled-set a n ys x (omega arith))
+  pub filled-length : length (filled a n xs) ≡ n
+  filled-length = written-long xs places ∙ length-replicate n a
 
--- a list copied one element further, whatever d is
-pub filled-next : {A : Type 0} (a : A) (n : ℕ) (xs : List A) (k : ℕ) (d : A) → k < length xs → k < n → set (filled a n (take k xs)) k (getD xs k d) ≡ filled a n (take (suc k) xs)
-filled-next a n [] k d h g = absurd (omega arith)
-filled-next a zero (x ∷ xs) k d h g = absurd (omega arith)
-filled-next a (suc n) (x ∷ xs) zero d h g = refl
-filled-next a (suc n) (x ∷ xs) (suc k) d h g = ap (λ (l : List _). x ∷ l) (filled-next a n xs k d (omega arith) (omega arith))
+  pub filled-set : (x : A) → length xs < n → set (filled a n xs) (length xs) x ≡ filled a n (xs ++ (x ∷ []))
+  filled-set x h = written-set xs places x (omega (arith, length-replicate n a))
 
--- a list as long as the array is the array
-pub filled-full : {A : Type 0} (a : A) (n : ℕ) (xs : List A) → length xs ≡ n → filled a n xs ≡ xs
-filled-full a zero [] h = refl
-filled-full a zero (x ∷ xs) h = absurd (omega arith)
-filled-full a (suc n) [] h = absurd (omega arith)
-filled-full a (suc n) (x ∷ xs) h = ap (λ (l : List _). x ∷ l) (filled-full a n xs (omega arith))
+  -- a list copied one element further, whatever d is
+  pub filled-next : (k : ℕ) (d : A) → k < length xs → k < n → set (filled a n (take k xs)) k (getD xs k d) ≡ filled a n (take (k + 1) xs)
+  filled-next k d h g = written-next xs places k d h (omega (arith, length-replicate n a))
 
--- the list itself is the array's front
-pub filled-take : {A : Type 0} (a : A) (n : ℕ) (xs : List A) → length xs ≤ n → take (length xs) (filled a n xs) ≡ xs
-filled-take a n [] h = refl
-filled-take a zero (x ∷ xs) h = absurd (omega arith)
-filled-take a (suc n) (x ∷ xs) h = ap (λ (l : List _). x ∷ l) (filled-take a n xs (omega arith))
+  -- a list as long as the array is the array
+  pub filled-full : length xs ≡ n → filled a n xs ≡ xs
+  filled-full e = written-fits xs places (omega (arith, length-replicate n a)) ∙ over-full xs places (omega (arith, length-replicate n a))
+
+  -- the list itself is the array's front
+  pub filled-take : length xs ≤ n → take (length xs) (filled a n xs) ≡ xs
+  filled-take h = ap (take (length xs)) (written-fits xs places (omega (arith, length-replicate n a))) ∙ take-append-seam xs (drop (length xs) places)

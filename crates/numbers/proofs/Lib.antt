@@ -7,5 +7,6 @@ pub mod Equal
 pub mod Machine
 pub mod Chain
 pub mod Tables
+pub mod Arrays
 pub mod Filled
 pub mod All

@@ -5,6 +5,7 @@ use Prim.Native.Nat.{ℕ, _≤_}
 use native.Mathlib.Decide.{decLe}
 use native.Mathlib.Nat.{lt-of-not-le}
 use borrow.Author.Tests.{le-leb, lt-leb}
+pub use borrow.Author.Tests.{not-true, not-false}
 use lib.Dec.{T, leb}
 
 -- a case on a test: what is to be shown, in either case from what the test then says
@@ -49,14 +50,6 @@ or-l false b e = refl
 pub or-r : (a b : Bool) → a || b ≡ false → b ≡ false
 or-r true b e = no-true (sym e)
 or-r false b e = e
-
-pub not-false : (a : Bool) → not a ≡ false → a ≡ true
-not-false true e = refl
-not-false false e = sym e
-
-pub not-true : (a : Bool) → not a ≡ true → a ≡ false
-not-true true e = sym e
-not-true false e = refl
 
 -- two tests of naturals that hold together
 pub leb-same : (x y u v : ℕ) → (x ≤ y → u ≤ v) → (u ≤ v → x ≤ y) → leb x y ≡ leb u v

@@ -41,7 +41,7 @@ fn excess_of(n: i64, d: i64) -> i64
     r + d * ((r < 0) as i64)
 }
 
-// The nearest whole number to n / d, a tie going to the even one.
+// The nearest whole number to n / d, a tie going to the even one; d is held to 1 to 4 * 10^18.
 pub fn round_half_even(n: i64, d: i64) -> i64
     ensures { λ r. ⌜ r ≡ roundEven n (divisor d) ⌝ }
 {

@@ -19,19 +19,19 @@ use Rattle.rules.specs.declared.Waiting.{Waiting}
 use Rattle.rules.specs.declared.Waiting.the-variants.{Nothing, Outward}
 use Rattle.rules.specs.declared.Book.{Book}
 use Rattle.rules.specs.Bounds.{SmallRun, SmallRuns}
-use Rattle.rules.specs.Standing.{standingOf, isFresh, isEmpty, isReturn, twoWay, runFits, waitingBroken, lineBroken, misplaced, broken}
+use Rattle.rules.specs.Standing.{standingOf, isFresh, isEmpty, isReturn, twoWay, runFits, waitingBroken, lineBroken, misplaced, broken, mostG, mostS, mostDifference}
 
 pub small-run : (u : Run) → runFits u ≡ true → SmallRun u
 small-run u e =
     let n = leb (u .count) 200 in
-    let h = within (u .height) 25000000 in
-    let s = between (pos 0) (u .sights) (pos 600000) in
-    let d = within (u .difference) 1000000 in
+    let h = within (u .height) mostG in
+    let s = between (pos 0) (u .sights) (pos mostS) in
+    let d = within (u .difference) mostDifference in
     record {
       count = leb→le (u .count) 200 (holds (and-l n h (and-l (n && h) s (and-l (n && h && s) d e))));
-      height = within-size (u .height) 25000000 (and-r n h (and-l (n && h) s (and-l (n && h && s) d e)));
-      sights = between-size (u .sights) 600000 (and-r (n && h) s (and-l (n && h && s) d e));
-      difference = within-size (u .difference) 1000000 (and-r (n && h && s) d e);
+      height = within-size (u .height) mostG (and-r n h (and-l (n && h) s (and-l (n && h && s) d e)));
+      sights = between-size (u .sights) mostS (and-r (n && h) s (and-l (n && h && s) d e));
+      difference = within-size (u .difference) mostDifference (and-r (n && h && s) d e);
     }
 
 -- a waiting run is small, and leaves room for its section

@@ -4,12 +4,13 @@ use lib.IntN.{natAbs}
 use Rattle.rules.specs.declared.Run.{Run}
 use Rattle.rules.specs.declared.Waiting.{Waiting}
 use Rattle.rules.specs.declared.Waiting.the-variants.{Nothing, Outward}
+use Rattle.rules.specs.Standing.{mostG, mostS, mostDifference}
 
 pub record SmallRun (u : Run) : Type 0 where
   pub count : u .count ≤ 200
-  pub height : natAbs (u .height) ≤ 25000000
-  pub sights : natAbs (u .sights) ≤ 600000
-  pub difference : natAbs (u .difference) ≤ 1000000
+  pub height : natAbs (u .height) ≤ mostG
+  pub sights : natAbs (u .sights) ≤ mostS
+  pub difference : natAbs (u .difference) ≤ mostDifference
 
 -- what waits and the present run
 abbrev pub SmallRuns : Waiting → Run → Type 0

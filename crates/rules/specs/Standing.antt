@@ -104,9 +104,19 @@ twoWay Fourth = false
 
 -- ---- refusal 20
 
+-- the most of a run: |G| in half mm, s and the sum of d in dm
+abbrev pub mostG : ℕ
+mostG = 25000000
+
+abbrev pub mostS : ℕ
+mostS = 600000
+
+abbrev pub mostDifference : ℕ
+mostDifference = 1000000
+
 -- Document 01 leaves this test to the program. It keeps every later sum in 64 bits, and holds of no book that calls from a fresh one leave.
 abbrev pub runFits : Run → Bool
-runFits u = leb (u .count) 200 && within (u .height) 25000000 && between (pos 0) (u .sights) (pos 600000) && within (u .difference) 1000000
+runFits u = leb (u .count) 200 && within (u .height) mostG && between (pos 0) (u .sights) (pos mostS) && within (u .difference) mostDifference
 
 -- a waiting run beside 64 sections would make the 65th
 abbrev pub waitingBroken : Waiting → ℕ → Bool

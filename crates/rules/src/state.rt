@@ -1,4 +1,4 @@
-// What the rules look at: where the line stands, and whether a book's counts and sums are such as calls can leave.
+// What the rules look at: where the line stands, and whether a book's counts and sums pass the test of 20, as all do that calls leave.
 ghost use mathlib.Core.Path.{_≡_};
 ghost use mathlib.Core.List.{map};
 ghost use Prim.Native.Nat.{_≤_};

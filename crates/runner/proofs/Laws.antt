@@ -8,14 +8,15 @@ use native.Mathlib.Omega.{arith}
 use lib.ListN.{length, getD, set, take, drop, length-append}
 use lib.Seq.{drop-cons}
 use lib.IntN.{ℤ, pos}
-use Rattle.numbers.specs.Whole.{eqZ}
+use Rattle.numbers.specs.Whole.{eqZ, written}
 use Rattle.rules.specs.Rules.{Call, end-run, drop-run, drop-section}
+use Rattle.numbers.proofs.Arrays.{written-set, written-past}
 use Rattle.ledger.specs.Plain.{Reading, freshReading, after, refusal, refusals, next}
 use Rattle.ledger.proofs.Drops.{after-append}
 use Rattle.ledger.proofs.Whole.{calls-kept}
 use Rattle.ledger.proofs.Traced as Traced
 use Rattle.ledger.proofs.Again.{bookOf}
-use Rattle.runner.specs.Calls.{argument, openOf, stationOf, closeOf, callOf, numbersAt, firstCalls, stepOf, written}
+use Rattle.runner.specs.Calls.{argument, openOf, stationOf, closeOf, callOf, numbersAt, firstCalls, stepOf}
 
 -- ---- one call
 
@@ -99,29 +100,6 @@ refusals-long : (r : Reading) (cs : List Call) → length (refusals r cs) ≡ le
 refusals-long r [] = refl
 refusals-long r (d ∷ cs) = ap suc (refusals-long (next r d) cs)
 
--- ---- a list written over another as far as it has places
-
-pub written-set : {A : Type 0} (xs ys : List A) (x : A) → length xs < length ys → set (written xs ys) (length xs) x ≡ written (xs ++ (x ∷ [])) ys
-written-set xs [] x h = absurd (omega arith)
-written-set [] (y ∷ []) x h = refl
-written-set [] (y ∷ (z ∷ ys)) x h = refl
-written-set (z ∷ xs) (y ∷ ys) x h = ap (λ (l : List _). z ∷ l) (written-set xs ys x (omega arith))
-
-pub written-past : {A : Type 0} (xs ys : List A) (x : A) → length ys ≤ length xs → written (xs ++ (x ∷ [])) ys ≡ written xs ys
-written-past [] [] x h = refl
-written-past [] (y ∷ ys) x h = absurd (omega arith)
-written-past (z ∷ xs) [] x h = refl
-written-past (z ∷ xs) (y ∷ ys) x h = ap (λ (l : List _). z ∷ l) (written-past xs ys x (omega arith))
-
-pub written-none : {A : Type 0} (ys : List A) → written [] ys ≡ ys
-written-none [] = refl
-written-none (y ∷ ys) = refl
-
-pub written-long : {A : Type 0} (xs ys : List A) → length (written xs ys) ≡ length ys
-written-long xs [] = refl
-written-long [] (y ∷ ys) = refl
-written-long (x ∷ xs) (y ∷ ys) = ap suc (written-long xs ys)
-
 -- ---- a call on the book that the calls before it left
 
 module _ (cs : List Call) (c : Call) where
@@ -144,5 +122,5 @@ module _ (cs : List Call) (c : Call) where
 
     pub number-left-out : length ys ≤ k → written (refusals freshReading cs) ys ≡ written (refusals freshReading (cs ++ (c ∷ []))) ys
     number-left-out h =
-        sym (ap (λ (l : List ℕ). written l ys) (refusals-more freshReading cs c)
-        ∙ written-past (refusals freshReading cs) ys (refusal (after freshReading cs) c) (omega (arith, size)))
+        written-past (refusals freshReading cs) ys (refusal (after freshReading cs) c) (omega (arith, size))
+        ∙ ap (λ (l : List ℕ). written l ys) (sym (refusals-more freshReading cs c))

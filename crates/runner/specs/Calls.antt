@@ -7,8 +7,7 @@ use mathlib.Core.List.{List, [], _∷_, _++_}
 use Prim.Native.Nat.{ℕ, zero, suc, _+_, _*_, _/_}
 use lib.ListN.{length, getD, take, drop}
 use lib.IntN.{ℤ, pos, negsuc}
-use Rattle.numbers.specs.Whole.{eqZ}
-use Rattle.adjust.specs.Sections.{over}
+use Rattle.numbers.specs.Whole.{eqZ, written}
 use Rattle.rules.specs.declared.Book.{Book}
 use Rattle.rules.specs.Standing.{standingOf}
 use Rattle.rules.specs.Rules.{Call, open-line, station, end-run, drop-run, drop-section, close-line, bookRefusal}
@@ -63,10 +62,6 @@ callsOf xs = firstCalls xs (length xs / 11)
 -- what a call answers, by document 01's number, and the book that it leaves
 abbrev pub stepOf : Book → Call → Step
 stepOf b c = record { number = bookRefusal (standingOf b) c; book = bookAfter b c }
-
--- the list ys with xs written into its first places, as far as there are places; the others keep what they held
-abbrev pub written : {A : Type 0} → List A → List A → List A
-written xs ys = over (take (length ys) xs) ys
 
 -- ---- worked
 

@@ -1,4 +1,4 @@
--- How large the figures of readings in their ranges can be: what keeps the code's sums small. No rule of the station.
+-- Bounds of the figures of readings in their ranges, wider than they need be: what keeps the code's sums small. No rule of the station.
 use Prim.Native.Nat.{_≤_}
 use lib.IntN.{natAbs}
 use Rattle.station.specs.declared.Sighting.{Sighting}

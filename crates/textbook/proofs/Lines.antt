@@ -5,8 +5,9 @@ use mathlib.Core.List.{List, [], _∷_, _++_, append-nil, append-assoc}
 use Prim.Native.Nat.{ℕ, zero, suc, _+_, _*_, _≤_, _<_}
 use native.Mathlib.Omega.{arith}
 use lib.Dec.{eqb}
-use lib.ListN.{length, set, drop, length-append}
+use lib.ListN.{length, set, drop, replicate, length-append}
 use Rattle.numbers.specs.Whole.{filled}
+use Rattle.numbers.proofs.Arrays.{written-none}
 use Rattle.numbers.proofs.Filled.{filled-set}
 use Rattle.columns.specs.declared.reader.Kind.{Kind}
 use Rattle.columns.specs.declared.reader.Kind.the-variants.{Record, Refused}
@@ -133,7 +134,7 @@ text-state t h = by-lines t ∙ lines-state (lines t) h
 
 -- ---- the refusals among the numbers
 
-no-refusals : (k n : ℕ) → refusalsFrom k (filled 0 n []) ≡ []
+no-refusals : (k n : ℕ) → refusalsFrom k (replicate n 0) ≡ []
 unfolding refusalsFrom
 no-refusals k zero = refl
 no-refusals k (suc n) = no-refusals (suc k) n
@@ -141,7 +142,7 @@ no-refusals k (suc n) = no-refusals (suc k) n
 -- zeros behind the numbers are no refusals
 pub refusals-filled : (k n : ℕ) (ns : List ℕ) → length ns ≤ n → refusalsFrom k (filled 0 n ns) ≡ refusalsFrom k ns
 unfolding refusalsFrom
-refusals-filled k n [] h = no-refusals k n
+refusals-filled k n [] h = ap (refusalsFrom k) (written-none (replicate n 0)) ∙ no-refusals k n
 refusals-filled k zero (x ∷ ns) h = absurd (omega arith)
 refusals-filled k (suc n) (x ∷ ns) h =
     ap (λ (xs : List Refusal). cond (eqb x 0) [] (record { line = k; number = x } ∷ []) ++ xs) (refusals-filled (suc k) n ns (omega arith))

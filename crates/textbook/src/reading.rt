@@ -16,7 +16,7 @@ use columns::reader::parse_line;
 use rules::Book;
 use runner::change_of;
 
-// What the lines read so far leave: the book, and each line's refusal number in the line's place, 0 where it was taken.
+// What the lines read so far leave: the book, and each line's refusal number in the line's place, 0 where it was taken or not read.
 pub struct State {
     pub book: Book,
     pub refusals: [u8; 778],
@@ -113,7 +113,7 @@ pub(crate) fn take_line(s: State, line: &[u8], number: usize) -> State
         let book = changes::change(book, c);
         return State { book, refusals };
     }
-    // no array is written; a call of `change` here as well would copy all of them once more for each line
+    // no array of the book is written; a call of `change` here as well would copy all of them once more for each line
     let next = c.line;
     let sections = book.sections;
     let book = Book {

@@ -6,6 +6,7 @@ use lib.IntN.{pos, natAbs}
 use Rattle.numbers.proofs.Machine.{stored-both, holds-stored}
 use Rattle.numbers.proofs.Chain.{known}
 use Rattle.adjust.specs.declared.heights.Known.{Known}
+use Rattle.adjust.specs.Sizes.{mostL, mostW}
 use Rattle.adjust.specs.Sections.{sectionsOf}
 use Rattle.adjust.specs.Line.{closure, lineLength}
 use Rattle.adjust.specs.Frames.{figuresFit, totalsIfFit}
@@ -42,8 +43,8 @@ returns c =
     let e = k .known-of .ensures
     ∙ stored-both (λ x y. record { start = x; closing = closure x y (sectionsOf (s .args .s)); total = lineLength (sectionsOf (s .args .s)) }) (s .fits .start) (s .fits .end) in
     let b = framed (between (k .before)) in
-    let w = known (k .known-of .result .closing) {k = 3271999992} (subst (λ (f : Known). natAbs (f .closing) ≤ 3271999992) (sym e) (b .closing)) tt .is in
-    let l = known (k .known-of .result .total) {k = 76800000} (subst (λ (f : Known). natAbs (f .total) ≤ 76800000) (sym e) (b .total)) tt .is in
+    let w = known (k .known-of .result .closing) {k = mostW} (subst (λ (f : Known). natAbs (f .closing) ≤ mostW) (sym e) (b .closing)) tt .is in
+    let l = known (k .known-of .result .total) {k = mostL} (subst (λ (f : Known). natAbs (f .total) ≤ mostL) (sym e) (b .total)) tt .is in
     (λ i. record { closure = (w ∙ ap (λ (f : Known). f .closing) e) i; distance = (l ∙ ap (λ (f : Known). f .total) e) i })
     ∙ sym (ap (λ (t : Bool). cond t (record { closure = closure (s .args .start) (s .args .end) (sectionsOf (s .args .s)); distance = lineLength (sectionsOf (s .args .s)) })
     (record { closure = pos 0; distance = pos 0 })) (sym (tested (k .before .before)) ∙ k .before .if1 .taken))

@@ -24,7 +24,7 @@ returns c =
     let s = r .before .before .before .before in
     let e = r .reduce-text .ensures in (
       c .number-of .ensures ∙ ap reducedNumber (e .0 .0),
-      (e .1, c .before .length-of .ensures ∙ ap (λ (x : Reduced). reducedLength x (s .args .length .now)) (e .0 .0)),
+      (e .1, c .before .length-of .ensures ∙ ap (λ (x : Reduced). reducedLength x (s .args .written .now)) (e .0 .0)),
     )
 
 pub level-reduce-spec : {M : Type 1} → statement M

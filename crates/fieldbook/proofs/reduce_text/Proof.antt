@@ -4,7 +4,7 @@ use mathlib.Core.List.{List}
 use Prim.Native.Nat.{ℕ, _≤_}
 use native.Mathlib.Omega.{arith}
 use lib.ListN.{length}
-use Rattle.columns.specs.Buffers.{putAt}
+use Rattle.numbers.specs.Whole.{putAt}
 use Rattle.columns.specs.Texts.{joined}
 use Rattle.textbook.specs.declared.reading.State.{State}
 use Rattle.fieldbook.specs.declared.Reduced.the-variants.{Written}

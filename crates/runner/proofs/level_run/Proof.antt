@@ -1,7 +1,8 @@
 -- `level_run` meets its contract.
 use mathlib.Core.Path.{ap, _∙_}
 use Rattle.rules.specs.declared.Book.{Book}
-use Rattle.runner.specs.Calls.{callsOf, written}
+use Rattle.runner.specs.Calls.{callsOf}
+use Rattle.numbers.specs.Whole.{written}
 use Rattle.runner.specs.Figures.{bookFigures}
 use Rattle.runner.proofs.Lists.{counts}
 use borrow.Author.Needs.{needs}

@@ -8,11 +8,13 @@ use lib.ListN.{length, set}
 use borrow.Author.Needs.{needs}
 use Rattle.rules.specs.declared.Book.{Book}
 use Rattle.rules.specs.Rules.{Call}
+use Rattle.numbers.specs.Whole.{written}
+use Rattle.numbers.proofs.Arrays.{written-none, written-long}
 use Rattle.ledger.specs.Plain.{freshReading, after, refusals}
 use Rattle.ledger.proofs.Again.{bookOf, fresh-holds}
 use Rattle.runner.specs.declared.Step.{Step}
-use Rattle.runner.specs.Calls.{callOf, firstCalls, numbersAt, stepOf, written}
-use Rattle.runner.proofs.Laws.{calls-more, calls-long, next-book, number-written, number-left-out, written-none, written-long}
+use Rattle.runner.specs.Calls.{callOf, firstCalls, numbersAt, stepOf}
+use Rattle.runner.proofs.Laws.{calls-more, calls-long, next-book, number-written, number-left-out}
 use Rattle.runner.proofs.run_calls.Statement.{statement}
 use Rattle.runner.proofs.run_calls.Tie as tie
 

@@ -13,6 +13,7 @@ use Rattle.numbers.proofs.Chain.{known}
 use Rattle.adjust.specs.declared.Section.{Section}
 use Rattle.adjust.specs.declared.Sections.{Sections}
 use Rattle.adjust.specs.declared.accidental.Total.{Total}
+use Rattle.adjust.specs.Sizes.{mostD, mostT, mostSumT}
 use Rattle.adjust.specs.Sections.{sectionAt, sectionsOf, legFits, sectionFits}
 use Rattle.adjust.specs.Line.{accidental}
 use Rattle.adjust.specs.Bounds.{LegBounds}
@@ -27,7 +28,7 @@ squares xs = sum (map accidental xs)
 -- before place k is visited
 record Going (s : Sections) (k : ℕ) (t : Total) : Type 0 where
   place : k ≤ s .count
-  small : natAbs (t .squares) ≤ 5000000000000001 * k
+  small : natAbs (t .squares) ≤ mostT * k
   fit : All sectionFits (remaining s k)
   whole : t .squares +ℤ squares (remaining s k) ≡ squares (sectionsOf s)
 
@@ -45,10 +46,10 @@ module _ {s : Sections} {k : ℕ} {t : Total} (here : k < s .count) (g : Going s
   fits-here = all-head sectionFits (sectionAt s k) (remaining s (k + 1)) (subst (All sectionFits) (next-remains s k here) (g .fit))
 
   leg : LegBounds (sectionAt s k)
-  leg = leg-bounds (sectionAt s k) (and-l (legFits (sectionAt s k)) (within (sectionAt s k .discrepancy) 100000) fits-here)
+  leg = leg-bounds (sectionAt s k) (and-l (legFits (sectionAt s k)) (within (sectionAt s k .discrepancy) mostD) fits-here)
 
-  discrepancy : natAbs (sectionAt s k .discrepancy) ≤ 100000
-  discrepancy = within-size (sectionAt s k .discrepancy) 100000 (and-r (legFits (sectionAt s k)) (within (sectionAt s k .discrepancy) 100000) fits-here)
+  discrepancy : natAbs (sectionAt s k .discrepancy) ≤ mostD
+  discrepancy = within-size (sectionAt s k .discrepancy) mostD (and-r (legFits (sectionAt s k)) (within (sectionAt s k .discrepancy) mostD) fits-here)
 
   next : Going s (k + 1) (record { squares = t .squares +ℤ accidental (sectionAt s k) })
   next =
@@ -82,7 +83,7 @@ with-square-requires c κs =
     let here = c .before .loop-test .taken in
     let x = sym (c .section-at .ensures) in (
       omega (arith, g .small, g .place),
-      subst (λ (y : Section). natAbs (y .discrepancy) ≤ 100000) x (discrepancy here g),
+      subst (λ (y : Section). natAbs (y .discrepancy) ≤ mostD) x (discrepancy here g),
       subst LegBounds x (leg here g),
     )
 
@@ -105,7 +106,7 @@ returns c =
     let g = l .loop .inv in
     let t = l .loop .t .squares in
     let few = l .before .pre .few in
-    known t {k = 400000000000000000} (omega (arith, g .small, g .place)) tt .is
+    known t {k = mostSumT} (omega (arith, g .small, g .place)) tt .is
     ∙ sym (+ℤ-idr t) ∙ sym (ap (λ (xs : List Section). t +ℤ squares xs) (none-remain s (l .loop .k) (c .before .loop-test .left))) ∙ g .whole
 
 pub squares-of-spec : {M : Type 1} → statement M

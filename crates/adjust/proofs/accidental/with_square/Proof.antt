@@ -1,6 +1,6 @@
 -- `with_square` meets its contract: squares of discrepancies in their range fit.
 use mathlib.Core.Path.{_≡_, sym, ap, subst, _∙_}
-use Prim.Native.Nat.{_≤_}
+use Prim.Native.Nat.{_+_, _*_, _≤_}
 use native.Mathlib.Omega.{arith}
 use lib.IntN.{ℤ, pos, natAbs, _+ℤ_, _*ℤ_}
 use borrow.Author.Needs.{needs}
@@ -8,17 +8,18 @@ use Rattle.roots.specs.Round.{roundEven, divisor}
 use Rattle.roots.proofs.RoundLaws.{divisor-in}
 use Rattle.numbers.proofs.Machine.{stored}
 use Rattle.numbers.proofs.Chain.{Value, known, literal, add, mul, fits, kept}
+use Rattle.adjust.specs.Sizes.{mostD, mostT, mostSumT}
 use Rattle.adjust.specs.Line.{accidental}
 use Rattle.adjust.proofs.Bounded.{accidental-size}
 use Rattle.adjust.proofs.accidental.with_square.Statement.{statement}
 use Rattle.adjust.proofs.accidental.with_square.Tie as tie
 
-square : (s : tie.Start) → Value (stored (s .args .x .discrepancy) *ℤ stored (s .args .x .discrepancy)) (s .args .x .discrepancy *ℤ s .args .x .discrepancy) 10000000000
+square : (s : tie.Start) → Value (stored (s .args .x .discrepancy) *ℤ stored (s .args .x .discrepancy)) (s .args .x .discrepancy *ℤ s .args .x .discrepancy) (mostD * mostD)
 square s = mul (known (s .args .x .discrepancy) (s .pre .1) tt) (known (s .args .x .discrepancy) (s .pre .1) tt)
 
 top :
     (s : tie.Start)
-    → Value (pos 500000 *ℤ stored (stored (s .args .x .discrepancy) *ℤ stored (s .args .x .discrepancy))) (pos 500000 *ℤ (s .args .x .discrepancy *ℤ s .args .x .discrepancy)) 5000000000000000
+    → Value (pos 500000 *ℤ stored (stored (s .args .x .discrepancy) *ℤ stored (s .args .x .discrepancy))) (pos 500000 *ℤ (s .args .x .discrepancy *ℤ s .args .x .discrepancy)) (500000 * (mostD * mostD))
 top s = mul (literal (pos 500000)) (kept (square s) tt)
 
 mul-round-half-even : tie.Need-mul-round-half-even
@@ -41,12 +42,12 @@ given c =
 
 sum : (c : tie.After-round-half-even)
     → Value (stored (c .before .before .before .args .t .squares) +ℤ stored (c .round-half-even .result))
-    (c .before .before .before .args .t .squares +ℤ c .round-half-even .result) 405000000000000001
+    (c .before .before .before .args .t .squares +ℤ c .round-half-even .result) (mostSumT + mostT)
 sum c =
     let s = c .before .before .before in
     let x = s .args .x in
     add (known (s .args .t .squares) (s .pre .0) tt)
-    (known (c .round-half-even .result) (subst (λ (z : ℤ). natAbs z ≤ 5000000000000001) (sym (given c)) (accidental-size x (s .pre .1) (s .pre .2))) tt)
+    (known (c .round-half-even .result) (subst (λ (z : ℤ). natAbs z ≤ mostT) (sym (given c)) (accidental-size x (s .pre .1) (s .pre .2))) tt)
 
 add-t7 : tie.Need-add-t7
 add-t7 c = fits (sum (c .before .before)) tt

@@ -1,12 +1,12 @@
 -- `adjust` meets its contract: a refusal leaves the list as it was, and a call that is taken writes one height a section.
-use mathlib.Core.Path.{_≡_, refl, sym, ap, subst, _∙_}
-use mathlib.Core.List.{List, [], _∷_, map}
-use Prim.Native.Nat.{ℕ, suc, _≤_}
+use mathlib.Core.Path.{_≡_, sym, ap, subst, _∙_}
+use mathlib.Core.List.{List, map}
+use Prim.Native.Nat.{ℕ, _≤_}
 use native.Mathlib.Omega.{arith}
 use lib.ListN.{length, take, drop}
-use lib.IntN.{ℤ, pos, _+ℤ_}
+use lib.IntN.{ℤ, pos}
 use borrow.Author.Needs.{needs}
-use Rattle.numbers.specs.Whole.{filled}
+use Rattle.numbers.specs.Whole.{filled, over}
 use Rattle.numbers.proofs.Filled.{filled-take}
 use Rattle.numbers.proofs.Tables.{zero-cond, nonzero-cond}
 use Rattle.numbers.proofs.Machine.{stored-both, holds-stored}
@@ -14,21 +14,17 @@ use Rattle.adjust.specs.declared.Point.{Point}
 use Rattle.adjust.specs.declared.Section.{Section}
 use Rattle.adjust.specs.declared.Answer.the-variants.{Taken, Refused}
 use Rattle.adjust.specs.declared.heights.Known.{Known}
-use Rattle.adjust.specs.Sections.{sectionsOf, over}
-use Rattle.adjust.specs.Line.{Frame, frameOf, closure, lineLength, printedHeight, pointsAfter, sectionPoints, points}
+use Rattle.adjust.specs.Sections.{sectionsOf}
+use Rattle.adjust.specs.Line.{Frame, frameOf, closure, lineLength, sectionPoints, points}
 use Rattle.adjust.specs.Frames.{frame, noPoint}
 use Rattle.adjust.specs.Call.{adjustRefusal, adjustedHeights, heightsAfter}
 use Rattle.adjust.specs.Bounds.{Between, Framed}
-use Rattle.adjust.proofs.Lists.{from-length}
+use Rattle.adjust.proofs.Lists.{from-length, points-length}
 use Rattle.adjust.proofs.Sized.{framed, adjustable}
 use Rattle.adjust.proofs.call.adjust.Statement.{statement}
 use Rattle.adjust.proofs.call.adjust.Tie as tie
 
 -- ---- one height a section
-
-points-length : (f : Frame) (q s h : ℤ) (xs : List Section) → length (pointsAfter f q s h xs) ≡ length xs
-points-length f q s h [] = refl
-points-length f q s h (x ∷ xs) = ap suc (points-length f (q +ℤ x .height) (s +ℤ x .distance) (printedHeight f (q +ℤ x .height) (s +ℤ x .distance)) xs)
 
 -- the heights behind the first point of the array
 behind : (f : Frame) (ss : List Section) (n : ℕ) → length ss ≡ n → n ≤ 64

@@ -1,79 +1,52 @@
--- `put_heights` meets its contract: the heights written and those still to be written are those of the points behind the first.
+-- `put_heights` meets its contract. The loop's invariant: with the heights that are left to write, all are written.
 use mathlib.Core.Path.{_≡_, refl, sym, ap, _∙_}
-use mathlib.Core.List.{List, [], _∷_, _++_, map, append-assoc, append-nil}
-use Prim.Native.Nat.{ℕ, suc, _+_, _-_, _≤_, _<_}
-use native.Mathlib.Numerals.{add-one}
+use mathlib.Core.List.{List, _∷_, map}
+use Prim.Native.Nat.{ℕ, _+_, _-_, _≤_, _<_}
+use native.Mathlib.Nat.{add-comm}
 use native.Mathlib.Omega.{arith}
 use borrow.Author.Needs.{needs}
-use lib.ListN.{length, getD, set, take, drop, length-set, length-append}
-use lib.Seq.{drop-cons}
+use lib.ListN.{length, getD, set, take, drop, length-set, length-take, length-drop, length-map, drop-of-length-le, List·getD-map}
+use lib.Seq.{getD-take, getD-drop}
 use lib.IntN.{ℤ}
 use mir.Syntax.{w64}
 use mir.Val.{SFits}
+use Rattle.numbers.specs.Whole.{over, putAt}
+use Rattle.numbers.proofs.Arrays.{drop-next, put-cons, put-all}
 use Rattle.numbers.proofs.Machine.{stored-id}
 use Rattle.adjust.specs.declared.Point.{Point}
-use Rattle.adjust.specs.Sections.{over}
 use Rattle.adjust.specs.Frames.{noPoint}
-use Rattle.adjust.proofs.Over.{over-next}
 use Rattle.adjust.proofs.call.put_heights.Statement.{statement}
 use Rattle.adjust.proofs.call.put_heights.Tie as tie
 
--- the heights from place k on
-abbrev coming : List Point → ℕ → ℕ → List ℤ
-coming points count k = map (λ (p : Point). p .height) (take (count - k) (drop (k + 1) points))
+module _ (points : List Point) (count : ℕ) where
+  -- the heights of `count` points behind the first
+  abbrev heights : List ℤ
+  heights = map (λ (p : Point). p .height) (take count (drop 1 points))
 
-coming-next : (points : List Point) (count k : ℕ) → k < count → k + 1 < length points
-    → coming points count k ≡ getD points (k + 1) noPoint .height ∷ coming points count (k + 1)
-coming-next points count k h l =
-    (λ i. map (λ (p : Point). p .height) (take (step i) ((drop-cons points (k + 1) noPoint l ∙ ap (λ (n : ℕ). getD points (k + 1) noPoint ∷ drop n points) (sym (add-one (k + 1)))) i)))
-  where
-    step : count - k ≡ suc (count - (k + 1))
-    step = omega arith
+  heights-long : count < length points → length heights ≡ count
+  heights-long h = simp (length-map, length-take, length-drop) (omega arith)
 
-from-first : (points : List Point) (count : ℕ) → coming points count 0 ≡ map (λ (p : Point). p .height) (take count (drop 1 points))
-from-first points count = ap (λ (n : ℕ). map (λ (p : Point). p .height) (take n (drop 1 points))) all
-  where
-    all : count - 0 ≡ count
-    all = omega arith
-
-coming-end : (points : List Point) (count k : ℕ) → count ≤ k → coming points count k ≡ []
-coming-end points count k h = ap (λ (n : ℕ). map (λ (p : Point). p .height) (take n (drop (k + 1) points))) none
-  where
-    none : count - k ≡ 0
-    none = omega arith
-
--- before place k is written
-record Going (points : List Point) (count : ℕ) (old now : List ℤ) (k : ℕ) : Type 0 where
-  place : k ≤ count
-  long : length now ≡ length old
-  done : List ℤ
-  size : length done ≡ k
-  held : now ≡ over done old
-  whole : done ++ coming points count k ≡ coming points count 0
-
-next : (points : List Point) (count : ℕ) (old now : List ℤ) (k : ℕ) (h : ℤ) → k < count → k + 1 < length points → count ≤ length old → h ≡ getD points (k + 1) noPoint .height
-    → Going points count old now k → Going points count old (set now k h) (k + 1)
-next points count old now k h here inside room e g =
-    record {
-      place = omega arith;
-      long = length-set now k h ∙ g .long;
-      done = g .done ++ (h ∷ []);
-      size = length-append (g .done) (h ∷ []) ∙ ap (λ (n : ℕ). n + 1) (g .size);
-      held = (λ i. set (g .held i) (sym (g .size) i) h) ∙ over-next (g .done) old h (omega (arith, g .size));
-      whole =
-          append-assoc (g .done) (h ∷ []) (coming points count (k + 1))
-          ∙ ap (λ (x : ℤ). g .done ++ (x ∷ coming points count (k + 1))) e
-          ∙ sym (ap (λ (l : List ℤ). g .done ++ l) (coming-next points count k here inside)) ∙ g .whole;
-    }
+  next : (k : ℕ) → k < count → count < length points → (now : List ℤ) {x : ℤ} → k < length now → x ≡ getD points (k + 1) noPoint .height
+      → putAt (set now k x) (k + 1) (drop (k + 1) heights) ≡ putAt now k (drop k heights)
+  next k here inside now {x} room e =
+      put-cons now k x (drop (k + 1) heights) room
+      ∙ ap (λ (z : ℤ). putAt now k (z ∷ drop (k + 1) heights)) (e ∙ sym at)
+      ∙ ap (putAt now k) (sym (drop-next heights k (noPoint .height) (omega (arith, heights-long inside))))
+    where
+      at : getD heights k (noPoint .height) ≡ getD points (k + 1) noPoint .height
+      at =
+          List·getD-map (λ (p : Point). p .height) (take count (drop 1 points)) k noPoint
+          ∙ rw (getD-take count (drop 1 points) k noPoint here, getD-drop 1 points k noPoint, add-comm 1 k)
 
 abbrev Inv-loop : tie.InvT-loop
-Inv-loop count heights₀ points k₀ heights k = Going points count heights₀ heights k
+Inv-loop count heights₀ points k₀ now k = (k ≤ count) × (length now ≡ length heights₀) × (putAt now k (drop k (heights points count)) ≡ over (heights points count) heights₀)
 
 abbrev μ-loop : tie.MeasureT-loop
-μ-loop count heights₀ points k₀ heights k = count - k
+μ-loop count heights₀ points k₀ now k = count - k
 
 loop-holds : tie.Need-loop-holds Inv-loop μ-loop
-loop-holds c = record { place = omega arith; long = refl; done = []; size = refl; held = refl; whole = refl }
+unfolding putAt
+loop-holds c = (omega arith, refl, refl)
 
 add-point : tie.Need-add-point Inv-loop μ-loop
 add-point c = omega arith
@@ -106,20 +79,21 @@ loop-again : tie.Need-loop-again Inv-loop μ-loop
 loop-again c =
     let l = c .before .before .before in
     let s = l .before in
-    next (s .args .t1) (s .args .count) (s .args .heights .now) (l .loop .heights) (l .loop .k) _ (c .before .before .loop-test .taken) (omega (arith, points-long s)) (s .pre .1)
-    (stored-id (height-fits c)) (l .loop .inv)
+    let here = c .before .before .loop-test .taken in (
+      omega arith,
+      length-set (l .loop .heights) (l .loop .k) _ ∙ l .loop .inv .1,
+      next (s .args .t1) (s .args .count) (l .loop .k) here (omega (arith, points-long s)) (l .loop .heights) (omega arith) (stored-id (height-fits c)) ∙ l .loop .inv .2,
+    )
 
 same-length : tie.Need-same-length Inv-loop μ-loop
-same-length c = c .before .loop .inv .long
+same-length c = c .before .loop .inv .1
 
 returns : tie.Need-returns Inv-loop μ-loop
 returns c =
     let l = c .before in
-    let g = l .loop .inv in
     let s = l .before in
-    let e = coming-end (s .args .t1) (s .args .count) (l .loop .k) (c .loop-test .left) in
-    g .held ∙ ap (λ (xs : List ℤ). over xs (s .args .heights .now))
-    (sym (append-nil (g .done)) ∙ sym (ap (λ (xs : List ℤ). g .done ++ xs) e) ∙ g .whole ∙ from-first (s .args .t1) (s .args .count))
+    let none = drop-of-length-le (heights (s .args .t1) (s .args .count)) {i = l .loop .k} (omega (arith, heights-long (s .args .t1) (s .args .count) (omega (arith, points-long s)))) in
+    put-all (l .loop .heights) (l .loop .k) none (l .loop .inv .2)
 
 pub put-heights-spec : {M : Type 1} → statement M
 put-heights-spec =

@@ -1,11 +1,11 @@
 -- `gather` meets its contract: a walk of its MIR, by hand. The lent list is looked into once, before the loop, and shut after it; the local array is
 -- taken apart into its elements before the loop, and put together after it. In between the array holds the first k legs.
-use mathlib.Core.Path.{_≡_, refl, sym, _∙_, ap, subst}
+use mathlib.Core.Path.{_≡_, refl, sym, subst}
 use mathlib.Core.List.{List, [], _∷_}
 use mathlib.Core.WellFounded.{WellFounded, InvImage·wf}
 use Prim.Native.Nat.{ℕ, _≤_, _<_, _^_, _*_, _+_, _-_, zero-le}
 use native.Mathlib.Nat.{le-antisymm, lt-of-le-of-lt}
-use native.Mathlib.Numerals.{add-one, add-one-le, add-one-dec}
+use native.Mathlib.Numerals.{add-one-le, add-one-dec}
 use native.Mathlib.Omega.{arith}
 use lib.WfN.{Nat·lt-wfRel}
 use lib.Dec.{T as Holds, ltb, ltb→lt, nltb→le, lit<}
@@ -206,8 +206,7 @@ module _ {M : Type 1} (𝓤 : URA M) (H : Heap 𝓤) (A : Atoms 𝓤) (W : Given
         bytes less = omega (arith, ltb→lt (k .0) n less, within)
 
         one-more : Holds (ltb (k .0) n) → set (gathered xs (k .0)) (k .0) (getD xs (k .0) noLeg) ≡ gathered xs (k .0 + 1)
-        one-more less =
-            filled-next noLeg 64 xs (k .0) noLeg (in-legs less) (omega (arith, ltb→lt (k .0) n less, within)) ∙ sym (ap (gathered xs) (add-one (k .0)))
+        one-more less = filled-next noLeg 64 xs (k .0) noLeg (in-legs less) (omega (arith, ltb→lt (k .0) n less, within))
 
   -- ---- up to the loop
 

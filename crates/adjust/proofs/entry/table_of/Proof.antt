@@ -2,7 +2,6 @@
 use mathlib.Core.Path.{_≡_, refl, sym, ap, _∙_}
 use mathlib.Core.List.{List, map}
 use Prim.Native.Nat.{ℕ, _+_, _-_, _≤_, _<_}
-use native.Mathlib.Numerals.{add-one}
 use native.Mathlib.Omega.{arith}
 use borrow.Author.Needs.{needs}
 use lib.ListN.{length, getD, set, take, replicate, length-map, List·getD-map}
@@ -27,7 +26,6 @@ next : (field : Leg → ℤ) {z : ℤ} {array : List ℤ} (legs : List Leg) (k :
 next field {z} {array} legs k long here e copied =
     (λ i. set (copied i) k ((e ∙ sym (List·getD-map field legs k noLeg)) i))
     ∙ filled-next (pos 0) 64 (map field legs) k (field noLeg) (omega (arith, length-map legs field)) here
-    ∙ ap (λ (n : ℕ). filled (pos 0) 64 (take n (map field legs))) (sym (add-one k))
 
 whole : (field : Leg → ℤ) {array : List ℤ} (legs : List Leg) (k : ℕ) → length legs ≡ 64 → k ≡ 64 → Copied field legs k array → array ≡ map field legs
 whole field legs k long end copied =

@@ -1,10 +1,12 @@
 -- `exact_top` meets its contract: each product fits for up to 64 sections.
 use mathlib.Core.Path.{sym, _∙_}
+use Prim.Native.Nat.{_+_, _*_}
 use lib.IntN.{ℤ, pos, _+ℤ_, _*ℤ_}
 use Rattle.numbers.proofs.Ring.{one-mulℤ}
 use Rattle.numbers.proofs.Machine.{stored}
 use Rattle.numbers.proofs.Chain.{Value, known, literal, add, sub, mul, fits, kept}
 use Rattle.adjust.specs.declared.heights.Known.{Known}
+use Rattle.adjust.specs.Sizes.{highest, mostSumQ, mostL, mostW}
 use Rattle.adjust.proofs.heights.exact_top.Statement.{statement}
 use Rattle.adjust.proofs.heights.exact_top.Tie as tie
 
@@ -12,24 +14,24 @@ module _ (s : tie.Start) where
   abbrev f : Known
   f = s .args .f
 
-  abbrev total : Value (stored (f .total)) (f .total) 76800000
+  abbrev total : Value (stored (f .total)) (f .total) mostL
   total = known (f .total) (s .pre .0 .total) tt
 
-  four : Value (pos 4 *ℤ stored (f .start)) (pos 4 *ℤ f .start) 35999996
+  four : Value (pos 4 *ℤ stored (f .start)) (pos 4 *ℤ f .start) (4 * highest)
   four = mul (literal (pos 4)) (known (f .start) (s .pre .0 .start) tt)
 
-  start : Value (stored (pos 4 *ℤ stored (f .start)) *ℤ stored (f .total)) (pos 4 *ℤ f .start *ℤ f .total) 2764799692800000
+  start : Value (stored (pos 4 *ℤ stored (f .start)) *ℤ stored (f .total)) (pos 4 *ℤ f .start *ℤ f .total) (4 * highest * mostL)
   start = mul (kept four tt) total
 
-  height : Value (stored (s .args .q) *ℤ stored (f .total)) (s .args .q *ℤ f .total) 245760000000000000
+  height : Value (stored (s .args .q) *ℤ stored (f .total)) (s .args .q *ℤ f .total) (mostSumQ * mostL)
   height = mul (known (s .args .q) (s .pre .1) tt) total
 
-  spread : Value (stored (f .closing) *ℤ stored (s .args .s)) (f .closing *ℤ s .args .s) 251289599385600000
+  spread : Value (stored (f .closing) *ℤ stored (s .args .s)) (f .closing *ℤ s .args .s) (mostW * mostL)
   spread = mul (known (f .closing) (s .pre .0 .closing) tt) (known (s .args .s) (s .pre .2) tt)
 
   raw :
       Value (stored (stored (pos 4 *ℤ stored (f .start)) *ℤ stored (f .total)) +ℤ stored (stored (s .args .q) *ℤ stored (f .total)))
-      (pos 4 *ℤ f .start *ℤ f .total +ℤ s .args .q *ℤ f .total) 248524799692800000
+      (pos 4 *ℤ f .start *ℤ f .total +ℤ s .args .q *ℤ f .total) (4 * highest * mostL + mostSumQ * mostL)
   raw = add (kept start tt) (kept height tt)
 
 mul-result : tie.Need-mul-result

@@ -1,11 +1,12 @@
 -- `known_of` meets its contract: W fits for one to 64 sections.
 use mathlib.Core.Path.{_≡_, ap, _∙_}
-use Prim.Native.Nat.{_≤_}
+use Prim.Native.Nat.{_+_, _*_, _≤_}
 use native.Mathlib.Omega.{arith}
 use lib.IntN.{ℤ, pos, natAbs, _+ℤ_, _-ℤ_, _*ℤ_}
 use Rattle.numbers.proofs.Machine.{stored}
 use Rattle.numbers.proofs.Chain.{Value, known, literal, add, sub, mul, fits, kept}
 use Rattle.adjust.specs.declared.sums.Sums.{Sums}
+use Rattle.adjust.specs.Sizes.{highest, mostSumQ, mostL, mostW}
 use Rattle.adjust.specs.Sections.{sectionsOf}
 use Rattle.adjust.specs.Line.{lineHeight, lineLength}
 use Rattle.adjust.proofs.Lists.{from-length}
@@ -26,26 +27,26 @@ module _ (c : tie.After-sums-of) where
   distance-is : c .sums-of .result .distance ≡ lineLength (sectionsOf (s .args .s))
   distance-is = ap (λ (t : Sums). t .distance) (c .sums-of .ensures)
 
-  height-small : natAbs (c .sums-of .result .height) ≤ 3200000000
+  height-small : natAbs (c .sums-of .result .height) ≤ mostSumQ
   height-small =
       omega (arith, ap natAbs height-is, from-length (s .args .s) 0 (s .args .s .count), height-size (sectionsOf (s .args .s)) (s .pre .fits .legs), s .pre .fits .few)
 
-  distance-small : natAbs (c .sums-of .result .distance) ≤ 76800000
+  distance-small : natAbs (c .sums-of .result .distance) ≤ mostL
   distance-small =
       omega (arith, ap natAbs distance-is, from-length (s .args .s) 0 (s .args .s .count), length-size (sectionsOf (s .args .s)) (s .pre .fits .legs), s .pre .fits .few)
 
-  four-start : Value (pos 4 *ℤ stored (s .args .start)) (pos 4 *ℤ s .args .start) 35999996
+  four-start : Value (pos 4 *ℤ stored (s .args .start)) (pos 4 *ℤ s .args .start) (4 * highest)
   four-start = mul (literal (pos 4)) (known (s .args .start) (s .pre .start-size) tt)
 
-  four-end : Value (pos 4 *ℤ stored (s .args .end)) (pos 4 *ℤ s .args .end) 35999996
+  four-end : Value (pos 4 *ℤ stored (s .args .end)) (pos 4 *ℤ s .args .end) (4 * highest)
   four-end = mul (literal (pos 4)) (known (s .args .end) (s .pre .end-size) tt)
 
-  raw : Value (stored (pos 4 *ℤ stored (s .args .start)) +ℤ stored (c .sums-of .result .height)) (pos 4 *ℤ s .args .start +ℤ c .sums-of .result .height) 3235999996
+  raw : Value (stored (pos 4 *ℤ stored (s .args .start)) +ℤ stored (c .sums-of .result .height)) (pos 4 *ℤ s .args .start +ℤ c .sums-of .result .height) (4 * highest + mostSumQ)
   raw = add (kept four-start tt) (known (c .sums-of .result .height) height-small tt)
 
   closing :
       Value (stored (stored (pos 4 *ℤ stored (s .args .start)) +ℤ stored (c .sums-of .result .height)) -ℤ stored (pos 4 *ℤ stored (s .args .end)))
-      (pos 4 *ℤ s .args .start +ℤ c .sums-of .result .height -ℤ pos 4 *ℤ s .args .end) 3271999992
+      (pos 4 *ℤ s .args .start +ℤ c .sums-of .result .height -ℤ pos 4 *ℤ s .args .end) mostW
   closing = sub (kept raw tt) (kept four-end tt)
 
 mul-t5 : tie.Need-mul-t5

@@ -1,6 +1,6 @@
 -- `next_point` meets its contract: sums, height and correction fit for up to 64 sections.
 use mathlib.Core.Path.{_≡_, sym, subst, _∙_}
-use Prim.Native.Nat.{_≤_}
+use Prim.Native.Nat.{_+_, _*_, _≤_}
 use lib.IntN.{ℤ, pos, natAbs, _+ℤ_, _-ℤ_, _*ℤ_}
 use borrow.Author.Needs.{needs}
 use mir.Syntax.{w64}
@@ -8,6 +8,7 @@ use mir.Val.{SFits}
 use Rattle.numbers.proofs.Ring.{one-mulℤ}
 use Rattle.numbers.proofs.Machine.{stored, stored-id}
 use Rattle.numbers.proofs.Chain.{Value, known, literal, add, sub, mul, fits, kept}
+use Rattle.adjust.specs.Sizes.{mostQ, mostR, mostSumQ, mostL, mostPrinted}
 use Rattle.adjust.specs.Line.{printedHeight}
 use Rattle.adjust.specs.Frames.{frame}
 use Rattle.adjust.proofs.Bounded.{printed-size}
@@ -16,12 +17,12 @@ use Rattle.adjust.proofs.heights.next_point.Tie as tie
 
 -- ---- the running sums
 
-height : (s : tie.Start) → Value (stored (s .args .w .height) +ℤ stored (s .args .x .height)) (s .args .w .height +ℤ s .args .x .height) 3200000000
-height s = add (known (s .args .w .height) {k = 3150000000} (s .pre .1 .height) tt) (known (s .args .x .height) (s .pre .2 .height) tt)
+height : (s : tie.Start) → Value (stored (s .args .w .height) +ℤ stored (s .args .x .height)) (s .args .w .height +ℤ s .args .x .height) mostSumQ
+height s = add (known (s .args .w .height) {k = mostQ * 63} (s .pre .1 .height) tt) (known (s .args .x .height) (s .pre .2 .height) tt)
 
 distance :
-    (s : tie.Start) → Value (stored (s .args .w .point .distance) +ℤ stored (s .args .x .distance)) (s .args .w .point .distance +ℤ s .args .x .distance) 76800000
-distance s = add (known (s .args .w .point .distance) {k = 75600000} (s .pre .1 .distance) tt) (known (s .args .x .distance) (s .pre .2 .distance) tt)
+    (s : tie.Start) → Value (stored (s .args .w .point .distance) +ℤ stored (s .args .x .distance)) (s .args .w .point .distance +ℤ s .args .x .distance) mostL
+distance s = add (known (s .args .w .point .distance) {k = mostR * 63} (s .pre .1 .distance) tt) (known (s .args .x .distance) (s .pre .2 .distance) tt)
 
 add-q : tie.Need-add-q
 add-q c = fits (height (c .before .before .before .before)) tt
@@ -35,8 +36,8 @@ printed-height-requires : tie.Need-printed-height-requires
 printed-height-requires c κs =
     let s = c .before .before .before .before .before .before .before .before in (
       s .pre .0,
-      subst (λ (z : ℤ). natAbs z ≤ 3200000000) (sym (kept (height s) tt .is)) (height s .size),
-      subst (λ (z : ℤ). natAbs z ≤ 76800000) (sym (kept (distance s) tt .is)) (distance s .size),
+      subst (λ (z : ℤ). natAbs z ≤ mostSumQ) (sym (kept (height s) tt .is)) (height s .size),
+      subst (λ (z : ℤ). natAbs z ≤ mostL) (sym (kept (distance s) tt .is)) (distance s .size),
     )
 
 start : tie.After-printed-height → tie.Start
@@ -51,30 +52,30 @@ printed-is c =
     let s = start c in
     c .printed-height .ensures ∙ (λ i. printedHeight (frame (s .args .f)) (kept (height s) tt .is i) (kept (distance s) tt .is i))
 
-result-size : (c : tie.After-printed-height) → natAbs (c .printed-height .result) ≤ 499999999999999999
+result-size : (c : tie.After-printed-height) → natAbs (c .printed-height .result) ≤ mostPrinted
 unfolding start
 result-size c =
     let s = start c in
-    subst (λ (z : ℤ). natAbs z ≤ 499999999999999999) (sym (printed-is c))
+    subst (λ (z : ℤ). natAbs z ≤ mostPrinted) (sym (printed-is c))
     (printed-size (s .args .f) (s .args .w .height +ℤ s .args .x .height) (s .args .w .point .distance +ℤ s .args .x .distance) (s .pre .0) (height s .size) (distance s .size))
 
 -- ---- the correction
 
 module _ (c : tie.After-printed-height) where
   rise :
-      Value (stored (c .printed-height .result) -ℤ stored (start c .args .w .point .height)) (c .printed-height .result -ℤ start c .args .w .point .height) 999999999999999998
+      Value (stored (c .printed-height .result) -ℤ stored (start c .args .w .point .height)) (c .printed-height .result -ℤ start c .args .w .point .height) (mostPrinted + mostPrinted)
   unfolding start
   rise = sub (known (c .printed-height .result) (result-size c) tt) (known (start c .args .w .point .height) (start c .pre .1 .printed) tt)
 
   four :
       Value (pos 4 *ℤ stored (stored (c .printed-height .result) -ℤ stored (start c .args .w .point .height)))
-      (pos 4 *ℤ (c .printed-height .result -ℤ start c .args .w .point .height)) 3999999999999999992
+      (pos 4 *ℤ (c .printed-height .result -ℤ start c .args .w .point .height)) (4 * (mostPrinted + mostPrinted))
   unfolding start
   four = mul (literal (pos 4)) (kept rise tt)
 
   correction :
       Value (stored (pos 4 *ℤ stored (stored (c .printed-height .result) -ℤ stored (start c .args .w .point .height))) -ℤ stored (start c .args .x .height))
-      (pos 4 *ℤ (c .printed-height .result -ℤ start c .args .w .point .height) -ℤ start c .args .x .height) 4000000000049999992
+      (pos 4 *ℤ (c .printed-height .result -ℤ start c .args .w .point .height) -ℤ start c .args .x .height) (4 * (mostPrinted + mostPrinted) + mostQ)
   unfolding start
   correction = sub (kept four tt) (known (start c .args .x .height) (start c .pre .2 .height) tt)
 

@@ -1,17 +1,17 @@
--- `points_of` meets its contract: the points written and those of the sections that remain are the line's.
+-- `points_of` meets its contract. The loop's invariant: with the points that are left to write, all are written.
 use mathlib.Core.Path.{_≡_, refl, sym, ap, subst, _∙_}
-use mathlib.Core.List.{List, [], _∷_, _++_, append-assoc, append-nil}
+use mathlib.Core.List.{List, [], _∷_}
 use Prim.Native.Nat.{ℕ, _+_, _-_, _*_, _≤_, _<_}
 use native.Mathlib.Omega.{arith}
-use lib.ListN.{length, set, length-append}
-use lib.IntN.{ℤ, pos, natAbs, _+ℤ_}
+use lib.ListN.{length, set, replicate, length-set}
+use lib.IntN.{ℤ, pos, natAbs, _+ℤ_, _*ℤ_}
 use borrow.Author.Needs.{needs}
 use mir.Syntax.{w64}
 use mir.Val.{toZ}
-use Rattle.numbers.specs.Whole.{filled}
+use Rattle.numbers.specs.Whole.{over, putAt, filled}
 use Rattle.numbers.proofs.Ring.{one-mulℤ}
 use Rattle.numbers.proofs.Sizes.{abs-add}
-use Rattle.numbers.proofs.Filled.{filled-set}
+use Rattle.numbers.proofs.Arrays.{put-cons, put-all, written-fits}
 use Rattle.numbers.proofs.Machine.{stored, stored-id}
 use Rattle.numbers.proofs.Chain.{known}
 use Rattle.adjust.specs.declared.Point.{Point}
@@ -19,11 +19,12 @@ use Rattle.adjust.specs.declared.Section.{Section}
 use Rattle.adjust.specs.declared.Sections.{Sections}
 use Rattle.adjust.specs.declared.heights.Known.{Known}
 use Rattle.adjust.specs.declared.heights.Progress.{Progress}
+use Rattle.adjust.specs.Sizes.{mostQ, mostR}
 use Rattle.adjust.specs.Sections.{sectionAt, sectionsOf}
 use Rattle.adjust.specs.Line.{pointAfter, pointsAfter, points}
 use Rattle.adjust.specs.Frames.{frame, noPoint}
 use Rattle.adjust.specs.Bounds.{LegBounds, Framed, Reached}
-use Rattle.adjust.proofs.Lists.{remaining, all-remain, next-remains, none-remain, Fit, fit-head, fit-tail}
+use Rattle.adjust.proofs.Lists.{remaining, all-remain, next-remains, none-remain, from-length, Fit, fit-head, fit-tail, points-length}
 use Rattle.adjust.proofs.Bounded.{printed-size}
 use Rattle.adjust.proofs.heights.points_of.Statement.{statement}
 use Rattle.adjust.proofs.heights.points_of.Tie as tie
@@ -37,10 +38,8 @@ record Going (f : Known) (number : ℤ) (s : Sections) (array : List Point) (w :
   place : k ≤ s .count
   reached : Reached k w
   fit : Fit (remaining s k)
-  done : List Point
-  size : length done ≡ k + 1
-  held : array ≡ filled noPoint 65 done
-  whole : done ++ coming f s w k ≡ points (frame f) number (sectionsOf s)
+  long : length array ≡ 65
+  left : putAt array (k + 1) (coming f s w k) ≡ over (points (frame f) number (sectionsOf s)) (replicate 65 noPoint)
 
 abbrev startPoint : ℤ → ℤ → Point
 startPoint number height = record { number = number; distance = pos 0; correction = pos 0; height = height }
@@ -49,17 +48,16 @@ abbrev Begun : Known → ℤ → Sections → ℤ → List Point → Type 0
 Begun f number s height array = Going f number s array (record { height = pos 0; point = startPoint number height }) 0
 
 begun : (f : Known) (number : ℤ) (s : Sections) → Framed f → Fit (sectionsOf s) → Begun f number s (f .start) (filled noPoint 65 (startPoint number (f .start) ∷ []))
+unfolding putAt
 begun f number s h fit =
     record {
       place = omega arith;
       reached = record { height = omega arith; distance = omega arith; printed = omega (arith, h .start) };
       fit = subst Fit (sym (all-remain s)) fit;
-      done = startPoint number (f .start) ∷ [];
-      size = refl;
-      held = refl;
-      whole =
-          ap (λ (xs : List Section). startPoint number (f .start) ∷ pointsAfter (frame f) (pos 0) (pos 0) (f .start) xs) (all-remain s)
-          ∙ ap (λ (h : ℤ). startPoint number h ∷ pointsAfter (frame f) (pos 0) (pos 0) h (sectionsOf s)) (sym (one-mulℤ (f .start)));
+      long = refl;
+      left = λ i.
+          let h : ℤ = sym (one-mulℤ (f .start)) i in
+          over (startPoint number h ∷ pointsAfter (frame f) (pos 0) (pos 0) h (all-remain s i)) (replicate 65 noPoint);
     }
 
 abbrev moved : Known → Progress → Section → Progress
@@ -77,20 +75,17 @@ module _ {f : Known} {number : ℤ} {s : Sections} {array : List Point} {w : Pro
   next h =
       let x = sectionAt s k in
       let p = moved f w x .point in
-      let q : natAbs (w .height +ℤ x .height) ≤ 50000000 * (k + 1) = omega (arith, abs-add (w .height) (x .height), g .reached .height, leg .height) in
-      let r : natAbs (w .point .distance +ℤ x .distance) ≤ 1200000 * (k + 1) = omega (arith, abs-add (w .point .distance) (x .distance), g .reached .distance, leg .distance) in
+      let q : natAbs (w .height +ℤ x .height) ≤ mostQ * (k + 1) = omega (arith, abs-add (w .height) (x .height), g .reached .height, leg .height) in
+      let r : natAbs (w .point .distance +ℤ x .distance) ≤ mostR * (k + 1) = omega (arith, abs-add (w .point .distance) (x .distance), g .reached .distance, leg .distance) in
       record {
         place = omega arith;
         reached = record { height = q; distance = r; printed = printed-size f (w .height +ℤ x .height) (w .point .distance +ℤ x .distance) h (omega arith) (omega arith) };
         fit = fit-tail x (remaining s (k + 1)) (subst Fit (next-remains s k here) (g .fit));
-        done = g .done ++ (p ∷ []);
-        size = length-append (g .done) (p ∷ []) ∙ ap (λ (n : ℕ). n + 1) (g .size);
-        held =
-            (λ i. set (g .held i) (sym (g .size) i) p) ∙ filled-set noPoint 65 (g .done) p (omega (arith, g .size));
-        whole =
-            append-assoc (g .done) (p ∷ []) (coming f s (moved f w x) (k + 1))
-            ∙ sym (ap (λ (xs : List Section). g .done ++ pointsAfter (frame f) (w .height) (w .point .distance) (w .point .height) xs) (next-remains s k here))
-            ∙ g .whole;
+        long = length-set array (k + 1) p ∙ g .long;
+        left =
+            put-cons array (k + 1) p (coming f s (moved f w x) (k + 1)) (omega (arith, g .long))
+            ∙ sym (ap (λ (xs : List Section). putAt array (k + 1) (pointsAfter (frame f) (w .height) (w .point .distance) (w .point .height) xs)) (next-remains s k here))
+            ∙ g .left;
       }
 
 abbrev Inv-loop : tie.InvT-loop
@@ -147,12 +142,12 @@ returns c =
     let l = c .before in
     let s = l .before .before .before in
     let f = s .args .f in
-    let g = l .loop .inv in
-    let none = ap (λ (xs : List Section). g .done ++ pointsAfter (frame f) (l .loop .w .height) (l .loop .w .point .distance) (l .loop .w .point .height) xs)
-    (none-remain (s .args .s) (l .loop .k) (c .loop-test .left)) in
-    g .held
-    ∙ ap (filled noPoint 65)
-    (sym (append-nil (g .done)) ∙ sym none ∙ g .whole ∙ ap (λ (n : ℤ). points (frame f) n (sectionsOf (s .args .s))) (stored-id (s .fits .number)))
+    let ss = sectionsOf (s .args .s) in
+    let none = ap (pointsAfter (frame f) (l .loop .w .height) (l .loop .w .point .distance) (l .loop .w .point .height)) (none-remain (s .args .s) (l .loop .k) (c .loop-test .left)) in
+    put-all (l .loop .points) (l .loop .k + 1) none (l .loop .inv .left)
+    ∙ ap (λ (n : ℤ). over (points (frame f) n ss) (replicate 65 noPoint)) (stored-id (s .fits .number))
+    ∙ sym (written-fits (points (frame f) (s .args .number) ss) (replicate 65 noPoint)
+    (omega (arith, s .pre .1 .few, from-length (s .args .s) 0 (s .args .s .count), points-length (frame f) (pos 0) (pos 0) (pos 1 *ℤ f .start) ss)))
 
 pub points-of-spec : {M : Type 1} → statement M
 points-of-spec =

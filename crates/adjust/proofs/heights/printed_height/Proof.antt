@@ -1,6 +1,6 @@
 -- `printed_height` meets its contract, by the promise of rounding: 4 × L is a divisor in its range.
 use mathlib.Core.Path.{_≡_, ap, _∙_}
-use Prim.Native.Nat.{_≤_}
+use Prim.Native.Nat.{_*_, _≤_}
 use native.Mathlib.Omega.{arith}
 use lib.IntN.{ℤ, pos, natAbs, _*ℤ_}
 use lib.Signed.{_≤ℤ_}
@@ -12,15 +12,16 @@ use Rattle.roots.proofs.RoundLaws.{divisor-in}
 use Rattle.numbers.proofs.Parts.{ints, parts-times, parts-abs}
 use Rattle.numbers.proofs.Machine.{stored, stored-id, stored-both}
 use Rattle.numbers.proofs.Chain.{Value, known, literal, mul, fits, kept}
+use Rattle.adjust.specs.Sizes.{mostL}
 use Rattle.adjust.specs.Line.{exactTop}
 use Rattle.adjust.specs.Frames.{frame}
 use Rattle.adjust.proofs.heights.printed_height.Statement.{statement}
 use Rattle.adjust.proofs.heights.printed_height.Tie as tie
 
-abbrev total : (s : tie.Start) → Value (pos 4 *ℤ stored (s .args .f .total)) (pos 4 *ℤ s .args .f .total) 307200000
+abbrev total : (s : tie.Start) → Value (pos 4 *ℤ stored (s .args .f .total)) (pos 4 *ℤ s .args .f .total) (4 * mostL)
 total s = mul (literal (pos 4)) (known (s .args .f .total) (s .pre .0 .total) tt)
 
-divides : (l : ℤ) → pos 1 ≤ℤ l → natAbs l ≤ 76800000 → divisor (pos 4 *ℤ l) ≡ natAbs (pos 4 *ℤ l)
+divides : (l : ℤ) → pos 1 ≤ℤ l → natAbs l ≤ mostL → divisor (pos 4 *ℤ l) ≡ natAbs (pos 4 *ℤ l)
 divides l h k =
     let long : pos 1 ≤ℤ (pos 4 *ℤ l) = omega (ints, parts-times 4 l) in
     divisor-in (pos 4 *ℤ l) long (omega (arith, parts-times 4 l, parts-abs l, parts-abs (pos 4 *ℤ l)))

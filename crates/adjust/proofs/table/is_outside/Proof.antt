@@ -7,6 +7,7 @@ use borrow.Author.Needs.{needs}
 use Rattle.numbers.specs.Whole.{between}
 use Rattle.numbers.proofs.Machine.{stored-id}
 use Rattle.adjust.specs.declared.Section.{Section}
+use Rattle.adjust.specs.Sizes.{mostQ, mostR, mostD}
 use Rattle.adjust.specs.Sections.{unnumbered, outside}
 use Rattle.adjust.proofs.table.is_outside.Statement.{statement}
 use Rattle.adjust.proofs.table.is_outside.Tie as tie
@@ -25,7 +26,7 @@ returns : tie.Need-returns
 returns c =
     let m = c .before in
     let s = m .before in
-    (λ i. not (leb (size m i) 2500000 && between (pos 1) (stored-id (s .fits .distance) i) (pos 1200000)))
+    (λ i. not (leb (size m i) 2500000 && between (pos 1) (stored-id (s .fits .distance) i) (pos mostR)))
     ∙ sym (ap (λ (b : Bool). outside b (section s)) (c .if1 .taken))
 
 magnitude-requires-2 : tie.Need-magnitude-requires-2
@@ -36,7 +37,7 @@ returns-2 c =
     let m = c .before .before in
     let s = m .before in
     let d = c .magnitude2 .ensures ∙ ap natAbs (stored-id (s .fits .discrepancy)) in
-    (λ i. not (leb (size m i) 50000000 && between (pos 1) (stored-id (s .fits .distance) i) (pos 1200000) && leb (d i) 100000))
+    (λ i. not (leb (size m i) mostQ && between (pos 1) (stored-id (s .fits .distance) i) (pos mostR) && leb (d i) mostD))
     ∙ sym (ap (λ (b : Bool). outside b (section s)) (c .before .if1 .left))
 
 pub is-outside-spec : {M : Type 1} → statement M

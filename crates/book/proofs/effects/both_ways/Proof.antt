@@ -1,17 +1,19 @@
 -- `both_ways` meets its contract: the sums and differences of two small runs fit.
+use Prim.Native.Nat.{_+_}
 use lib.IntN.{_+ℤ_, _-ℤ_}
 use Rattle.numbers.proofs.Machine.{stored, stored-id}
 use Rattle.numbers.proofs.Chain.{Value, known, add, sub, fits, kept}
+use Rattle.rules.specs.Standing.{mostG, mostS}
 use Rattle.book.proofs.effects.both_ways.Statement.{statement}
 use Rattle.book.proofs.effects.both_ways.Tie as tie
 
-height : (s : tie.Start) → Value (stored (s .args .out .height) -ℤ stored (s .args .back .height)) (s .args .out .height -ℤ s .args .back .height) 50000000
+height : (s : tie.Start) → Value (stored (s .args .out .height) -ℤ stored (s .args .back .height)) (s .args .out .height -ℤ s .args .back .height) (mostG + mostG)
 height s = sub (known (s .args .out .height) (s .pre .0 .height) tt) (known (s .args .back .height) (s .pre .1 .height) tt)
 
-sights : (s : tie.Start) → Value (stored (s .args .out .sights) +ℤ stored (s .args .back .sights)) (s .args .out .sights +ℤ s .args .back .sights) 1200000
+sights : (s : tie.Start) → Value (stored (s .args .out .sights) +ℤ stored (s .args .back .sights)) (s .args .out .sights +ℤ s .args .back .sights) (mostS + mostS)
 sights s = add (known (s .args .out .sights) (s .pre .0 .sights) tt) (known (s .args .back .sights) (s .pre .1 .sights) tt)
 
-discrepancy : (s : tie.Start) → Value (stored (s .args .out .height) +ℤ stored (s .args .back .height)) (s .args .out .height +ℤ s .args .back .height) 50000000
+discrepancy : (s : tie.Start) → Value (stored (s .args .out .height) +ℤ stored (s .args .back .height)) (s .args .out .height +ℤ s .args .back .height) (mostG + mostG)
 discrepancy s = add (known (s .args .out .height) (s .pre .0 .height) tt) (known (s .args .back .height) (s .pre .1 .height) tt)
 
 sub-t4 : tie.Need-sub-t4

@@ -1,14 +1,16 @@
 -- `one_way` meets its contract: twice a small run's sums fit.
+use Prim.Native.Nat.{_*_}
 use lib.IntN.{pos, _*ℤ_}
 use Rattle.numbers.proofs.Machine.{stored, stored-id}
 use Rattle.numbers.proofs.Chain.{Value, known, literal, mul, fits, kept}
+use Rattle.rules.specs.Standing.{mostG, mostS}
 use Rattle.book.proofs.effects.one_way.Statement.{statement}
 use Rattle.book.proofs.effects.one_way.Tie as tie
 
-height : (s : tie.Start) → Value (pos 2 *ℤ stored (s .args .run .height)) (pos 2 *ℤ s .args .run .height) 50000000
+height : (s : tie.Start) → Value (pos 2 *ℤ stored (s .args .run .height)) (pos 2 *ℤ s .args .run .height) (2 * mostG)
 height s = mul (literal (pos 2)) (known (s .args .run .height) (s .pre .height) tt)
 
-sights : (s : tie.Start) → Value (pos 2 *ℤ stored (s .args .run .sights)) (pos 2 *ℤ s .args .run .sights) 1200000
+sights : (s : tie.Start) → Value (pos 2 *ℤ stored (s .args .run .sights)) (pos 2 *ℤ s .args .run .sights) (2 * mostS)
 sights s = mul (literal (pos 2)) (known (s .args .run .sights) (s .pre .sights) tt)
 
 mul-t3 : tie.Need-mul-t3

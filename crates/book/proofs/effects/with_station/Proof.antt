@@ -5,6 +5,7 @@ use Rattle.numbers.proofs.Machine.{stored, stored-id}
 use Rattle.numbers.proofs.Chain.{Value, known, add, fits, kept}
 use Rattle.station.specs.declared.Figures.{Figures}
 use Rattle.rules.specs.declared.Run.{Run}
+use Rattle.rules.specs.Standing.{mostG, mostS, mostDifference}
 use borrow.Author.Needs.{needs}
 use Rattle.book.proofs.effects.with_station.Statement.{statement}
 use Rattle.book.proofs.effects.with_station.Tie as tie
@@ -19,16 +20,16 @@ module _ (s : tie.Start) where
   abbrev f : Figures
   f = s .args .f
 
-  height : Value (stored (u .height) +ℤ stored (f .height)) (u .height +ℤ f .height) 25031572
+  height : Value (stored (u .height) +ℤ stored (f .height)) (u .height +ℤ f .height) (mostG + 31572)
   height = add (known (u .height) (s .pre .0 .height) tt) (known (f .height) (s .pre .1 .height) tt)
 
   both : Value (stored (f .back .sight) +ℤ stored (f .fore .sight)) (f .back .sight +ℤ f .fore .sight) 12000
   both = add (known (f .back .sight) (s .pre .1 .back .sight) tt) (known (f .fore .sight) (s .pre .1 .fore .sight) tt)
 
-  sights : Value (stored (u .sights) +ℤ stored (stored (f .back .sight) +ℤ stored (f .fore .sight))) (u .sights +ℤ (f .back .sight +ℤ f .fore .sight)) 612000
+  sights : Value (stored (u .sights) +ℤ stored (stored (f .back .sight) +ℤ stored (f .fore .sight))) (u .sights +ℤ (f .back .sight +ℤ f .fore .sight)) (mostS + 12000)
   sights = add (known (u .sights) (s .pre .0 .sights) tt) (kept both tt)
 
-  difference : Value (stored (u .difference) +ℤ stored (f .difference)) (u .difference +ℤ f .difference) 1012000
+  difference : Value (stored (u .difference) +ℤ stored (f .difference)) (u .difference +ℤ f .difference) (mostDifference + 12000)
   difference = add (known (u .difference) (s .pre .0 .difference) tt) (known (f .difference) (s .pre .1 .difference) tt)
 
 add-t5 : tie.Need-add-t5

@@ -9,15 +9,15 @@ use lib.IntN.{ℤ}
 use lib.ListN.{length, take, drop, set, length-set, length-take}
 use mir.Syntax.{w64}
 use mir.Val.{SFits}
+use Rattle.numbers.specs.Whole.{putAt}
 use Rattle.numbers.proofs.Machine.{stored-id}
+use Rattle.numbers.proofs.Arrays.{put-cons, put-all}
 use Rattle.columns.specs.declared.reader.Field.the-variants.{Number}
 use Rattle.columns.specs.declared.reader.Tag.{Tag}
 use Rattle.columns.specs.declared.reader.Kind.the-variants.{Record}
 use Rattle.columns.specs.declared.reader.Line.{Line}
-use Rattle.columns.specs.Buffers.{putAt}
 use Rattle.columns.specs.Decimals.{fieldOf}
 use Rattle.columns.specs.Records.{zeros, allNumbers, numbersIn}
-use Rattle.columns.proofs.Put.{put-none, put-cons}
 use Rattle.columns.proofs.Records.{fieldAt, numbers-next, numbers-stop, numbers-end, values-next, values-end, line-refused, line-taken}
 use Rattle.columns.proofs.reader.read_numbers.Statement.{statement}
 use Rattle.columns.proofs.reader.read_numbers.Tie as tie
@@ -134,12 +134,7 @@ returns-2 c =
     let l = c .before in
     let a = l .before .before .args in
     let t = drop (3 + 8 * l .loop .i) (a .line .now) in
-    let v : l .loop .values ≡ putAt zeros 0 (numbersIn (a .n) (drop 3 (a .line .now))) =
-    sym (put-none (l .loop .values) (l .loop .i))
-    ∙ ap (putAt (l .loop .values) (l .loop .i)) (sym (values-end (a .n) (l .loop .i) t (omega arith)))
-    ∙ l .loop .inv .3
-    in
-    ap (made (a .tag)) v
+    ap (made (a .tag)) (put-all (l .loop .values) (l .loop .i) (values-end (a .n) (l .loop .i) t (omega arith)) (l .loop .inv .3))
     ∙ sym (line-taken (a .tag) (a .n) (drop 3 (a .line .now)) (l .loop .inv .2 ∙ numbers-end (a .n) (l .loop .i) t (omega arith)))
 
 pub read-numbers-spec : {M : Type 1} → statement M

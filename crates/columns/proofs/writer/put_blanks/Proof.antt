@@ -4,9 +4,9 @@ use Prim.Native.Nat.{ℕ, _+_, _-_, _≤_}
 use native.Mathlib.Nat.{add-zero, add-assoc, sub-zero}
 use native.Mathlib.Omega.{arith}
 use lib.ListN.{length, set, length-set}
-use Rattle.columns.specs.Buffers.{putAt}
+use Rattle.numbers.specs.Whole.{putAt}
+use Rattle.numbers.proofs.Arrays.{put-cons, put-all}
 use Rattle.columns.specs.Decimals.{blanks}
-use Rattle.columns.proofs.Put.{put-none, put-cons}
 use Rattle.columns.proofs.Fields.{blanks-none, blanks-next}
 use Rattle.columns.proofs.writer.put_blanks.Statement.{statement}
 use Rattle.columns.proofs.writer.put_blanks.Tie as tie
@@ -52,9 +52,7 @@ returns : tie.Need-returns Inv-loop μ-loop
 returns c =
     let l = c .before in
     let a = l .before .args in
-    sym (put-none (l .loop .buf) (a .at + l .loop .i))
-    ∙ ap (putAt (l .loop .buf) (a .at + l .loop .i)) (sym (blanks-none (a .n) (l .loop .i) (omega arith)))
-    ∙ l .loop .inv .2
+    put-all (l .loop .buf) (a .at + l .loop .i) (blanks-none (a .n) (l .loop .i) (omega arith)) (l .loop .inv .2)
 
 pub put-blanks-spec : {M : Type 1} → statement M
 put-blanks-spec =

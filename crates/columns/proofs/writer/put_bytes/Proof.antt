@@ -1,11 +1,11 @@
 -- `put_bytes` meets its contract. The loop's invariant: with what is left of s to write, all of s is written.
-use mathlib.Core.Path.{_≡_, refl, sym, ap, _∙_}
+use mathlib.Core.Path.{_≡_, refl, ap, _∙_}
 use Prim.Native.Nat.{ℕ, _+_, _-_, _≤_}
 use native.Mathlib.Nat.{add-zero}
 use native.Mathlib.Omega.{arith}
 use lib.ListN.{length, drop, length-set, drop-of-length-le}
-use Rattle.columns.specs.Buffers.{putAt}
-use Rattle.columns.proofs.Put.{put-none, put-next}
+use Rattle.numbers.specs.Whole.{putAt}
+use Rattle.numbers.proofs.Arrays.{put-next, put-all}
 use Rattle.columns.proofs.writer.put_bytes.Statement.{statement}
 use Rattle.columns.proofs.writer.put_bytes.Tie as tie
 
@@ -49,9 +49,7 @@ returns : tie.Need-returns Inv-loop μ-loop
 returns c =
     let l = c .before in
     let a = l .before .args in
-    sym (put-none (l .loop .buf) (a .at + l .loop .i))
-    ∙ ap (putAt (l .loop .buf) (a .at + l .loop .i)) (sym (drop-of-length-le (a .s .now) {i = l .loop .i} (omega arith)))
-    ∙ l .loop .inv .2
+    put-all (l .loop .buf) (a .at + l .loop .i) (drop-of-length-le (a .s .now) {i = l .loop .i} (omega arith)) (l .loop .inv .2)
 
 pub put-bytes-spec : {M : Type 1} → statement M
 put-bytes-spec =

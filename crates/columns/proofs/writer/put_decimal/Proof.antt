@@ -6,10 +6,10 @@ use native.Mathlib.Omega.{arith}
 use borrow.Author.Needs.{needs}
 use lib.IntN.{pos, natAbs}
 use lib.ListN.{length, set}
+use Rattle.numbers.specs.Whole.{putAt}
 use Rattle.numbers.proofs.Machine.{stored-id, literal-as, branch-lt, branch-ge}
-use Rattle.columns.specs.Buffers.{putAt}
+use Rattle.numbers.proofs.Arrays.{put-head}
 use Rattle.columns.specs.Decimals.{digits, decimal}
-use Rattle.columns.proofs.Put.{put-head}
 use Rattle.columns.proofs.Fields.{decimal-minus, decimal-plain, digits-decimal}
 use Rattle.columns.proofs.writer.put_decimal.Statement.{statement}
 use Rattle.columns.proofs.writer.put_decimal.Tie as tie

@@ -3,10 +3,10 @@ use mathlib.Core.Path.{_≡_, refl, sym, ap, _∙_}
 use Prim.Native.Nat.{ℕ, _+_, _-_, _/_, _%_, _≤_, _<_}
 use native.Mathlib.Omega.{arith}
 use lib.ListN.{length, length-set}
-use Rattle.columns.specs.Buffers.{putAt}
+use Rattle.numbers.specs.Whole.{putAt}
+use Rattle.numbers.proofs.Arrays.{set-put, put-snoc}
 use Rattle.columns.specs.Decimals.{digits}
 use Rattle.columns.proofs.Digits.{digits-some, digits-small, digits-large, length-large}
-use Rattle.columns.proofs.Put.{set-put, put-snoc}
 use Rattle.columns.proofs.writer.put_digits.Statement.{statement}
 use Rattle.columns.proofs.writer.put_digits.Tie as tie
 

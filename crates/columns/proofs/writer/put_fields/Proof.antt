@@ -7,12 +7,12 @@ use native.Mathlib.Nat.{sub-zero}
 use native.Mathlib.Omega.{arith}
 use lib.IntN.{ℤ, pos}
 use lib.ListN.{length, drop, getD, drop-of-length-le}
+use Rattle.numbers.specs.Whole.{putAt}
 use Rattle.numbers.proofs.Machine.{stored, stored-id}
-use Rattle.columns.specs.Buffers.{putAt}
+use Rattle.numbers.proofs.Arrays.{put-after, put-all}
 use Rattle.columns.specs.Decimals.{fitsIn, pad}
 use Rattle.columns.specs.Lines.{widthOf, fields, allFit, columnsOf}
 use Rattle.columns.proofs.Compare.{both}
-use Rattle.columns.proofs.Put.{put-none, put-after}
 use Rattle.columns.proofs.Fields.{length-pad}
 use Rattle.columns.proofs.Lines.{fields-turn, fit-turn, columns-turn}
 use Rattle.columns.proofs.writer.put_fields.Statement.{statement}
@@ -124,9 +124,7 @@ unfolding fields
 returns c =
     let l = c .before in
     let a = l .before .before .args in
-    sym (put-none (l .loop .buf) (l .loop .next))
-    ∙ ap (λ (x : List ℤ). putAt (l .loop .buf) (l .loop .next) (fields (a .wide) x)) (sym (drop-of-length-le (a .numbers .now) {i = l .loop .i} (omega arith)))
-    ∙ l .loop .inv .4
+    put-all (l .loop .buf) (l .loop .next) (ap (fields (a .wide)) (drop-of-length-le (a .numbers .now) {i = l .loop .i} (omega arith))) (l .loop .inv .4)
 
 pub put-fields-spec : {M : Type 1} → statement M
 put-fields-spec =

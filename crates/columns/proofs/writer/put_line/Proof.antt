@@ -7,7 +7,8 @@ use native.Mathlib.Omega.{arith}
 use borrow.Author.Tests.{not-true, not-false}
 use borrow.Author.Needs.{needs}
 use lib.ListN.{length}
-use Rattle.columns.specs.Buffers.{putAt, placed}
+use Rattle.numbers.specs.Whole.{putAt}
+use Rattle.columns.specs.Buffers.{placed}
 use Rattle.columns.specs.Lines.{lineFits, tagLine}
 use Rattle.columns.proofs.Put.{placed-room, placed-none, placed-empty}
 use Rattle.columns.proofs.Lines.{line-is, line-none, length-line}

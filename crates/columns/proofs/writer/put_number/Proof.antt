@@ -7,10 +7,10 @@ use borrow.Author.Tests.{leb-true}
 use borrow.Author.Needs.{needs}
 use lib.IntN.{ℤ}
 use lib.ListN.{length}
+use Rattle.numbers.specs.Whole.{putAt}
 use Rattle.numbers.proofs.Machine.{stored-id}
-use Rattle.columns.specs.Buffers.{putAt}
+use Rattle.numbers.proofs.Arrays.{put-before}
 use Rattle.columns.specs.Decimals.{blanks, decimal, fitsIn, pad}
-use Rattle.columns.proofs.Put.{put-before}
 use Rattle.columns.proofs.Fields.{length-blanks}
 use Rattle.columns.proofs.writer.put_number.Statement.{statement}
 use Rattle.columns.proofs.writer.put_number.Tie as tie

@@ -5,8 +5,8 @@ use mathlib.Core.List.{List}
 use Prim.Native.Nat.{ℕ, _+_, _≤_}
 use native.Mathlib.Omega.{arith}
 use lib.ListN.{length}
+use Rattle.numbers.specs.Whole.{putAt}
 use Rattle.adjust.specs.declared.Adjusted.{Adjusted}
-use Rattle.columns.specs.Buffers.{putAt}
 use Rattle.columns.specs.Texts.{joined}
 use Rattle.rules.specs.Standing.{isClosed}
 use Rattle.fieldbook.specs.Report.{closingLines}

@@ -5,11 +5,12 @@ use mathlib.Core.List.{List, [], _∷_}
 use native.Mathlib.Omega.{arith}
 use lib.IntN.{ℤ, pos}
 use lib.ListN.{length}
-use Rattle.columns.specs.Buffers.{putAt, placed}
+use Rattle.columns.specs.Buffers.{placed}
 use Rattle.columns.specs.Lines.{tagLine}
-use Rattle.columns.proofs.Put.{put-none}
 use Rattle.columns.proofs.Lines.{length-line}
+use Rattle.numbers.specs.Whole.{putAt}
 use Rattle.numbers.proofs.Machine.{cast-nat}
+use Rattle.numbers.proofs.Arrays.{put-none}
 use Rattle.fieldbook.proofs.Written.{line-put, refusal-none, refusal-some, refusal-fits}
 use borrow.Author.Needs.{needs}
 use Rattle.fieldbook.proofs.printing.put_refusal.Statement.{statement}

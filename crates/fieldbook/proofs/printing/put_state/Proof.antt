@@ -4,10 +4,11 @@ use mathlib.Core.List.{List}
 use Prim.Native.Nat.{ℕ}
 use native.Mathlib.Omega.{arith}
 use lib.ListN.{length}
-use Rattle.columns.specs.Buffers.{putAt}
+use Rattle.numbers.specs.Whole.{putAt}
+use Rattle.numbers.proofs.Arrays.{length-putAt}
 use Rattle.columns.specs.Lines.{title}
 use Rattle.columns.specs.Texts.{joined}
-use Rattle.columns.proofs.Put.{length-putAt, placed-room}
+use Rattle.columns.proofs.Put.{placed-room}
 use Rattle.columns.proofs.Lines.{length-title}
 use Rattle.fieldbook.specs.Printed.{refusalLines, bookLines}
 use Rattle.fieldbook.proofs.Written.{state-long, state-put}

@@ -1,6 +1,7 @@
 -- `too_far` meets its contract: the sums of two small runs fit.
 use mathlib.Core.Path.{sym, ap, subst, _∙_}
 use mathlib.Core.Bool.{false, not}
+use Prim.Native.Nat.{_+_}
 use lib.IntN.{ℤ, _+ℤ_}
 use Rattle.numbers.proofs.Machine.{stored}
 use Rattle.numbers.proofs.Chain.{Value, known, add, fits, kept}
@@ -8,7 +9,7 @@ use Rattle.roots.specs.Limit.{isWithin}
 use Rattle.rules.specs.declared.Run.{Run}
 use Rattle.rules.specs.declared.Waiting.{Waiting}
 use Rattle.rules.specs.Bounds.{SmallRun, SmallRuns}
-use Rattle.rules.specs.Standing.{outwardOrReturn, bothWays}
+use Rattle.rules.specs.Standing.{outwardOrReturn, bothWays, mostG, mostS}
 use Rattle.rules.specs.Rules.{discrepancyWithin}
 use borrow.Author.Needs.{needs}
 use Rattle.rules.proofs.refusals.too_far.Statement.{statement}
@@ -28,11 +29,11 @@ small : (w : tie.After-waiting) → SmallRun (run w) × SmallRun (w .before .bef
 small w = subst (λ (x : Waiting). SmallRuns x (w .before .before .args .present)) (w .waiting .given .1) (w .before .before .pre)
 
 height : (w : tie.After-waiting)
-    → Value (stored (run w .height) +ℤ stored (w .before .before .args .present .height)) (run w .height +ℤ w .before .before .args .present .height) 50000000
+    → Value (stored (run w .height) +ℤ stored (w .before .before .args .present .height)) (run w .height +ℤ w .before .before .args .present .height) (mostG + mostG)
 height w = add (known (run w .height) (small w .0 .height) tt) (known (w .before .before .args .present .height) (small w .1 .height) tt)
 
 sights : (w : tie.After-waiting)
-    → Value (stored (run w .sights) +ℤ stored (w .before .before .args .present .sights)) (run w .sights +ℤ w .before .before .args .present .sights) 1200000
+    → Value (stored (run w .sights) +ℤ stored (w .before .before .args .present .sights)) (run w .sights +ℤ w .before .before .args .present .sights) (mostS + mostS)
 sights w = add (known (run w .sights) (small w .0 .sights) tt) (known (w .before .before .args .present .sights) (small w .1 .sights) tt)
 
 add-within : tie.Need-add-within

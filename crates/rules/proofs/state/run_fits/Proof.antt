@@ -7,6 +7,7 @@ use mir.Syntax.{w64}
 use mir.Val.{SFits}
 use Rattle.numbers.specs.Whole.{between}
 use Rattle.numbers.proofs.Machine.{stored-id}
+use Rattle.rules.specs.Standing.{mostG, mostS, mostDifference}
 use borrow.Author.Needs.{needs}
 use Rattle.rules.proofs.state.run_fits.Statement.{statement}
 use Rattle.rules.proofs.state.run_fits.Tie as tie
@@ -33,7 +34,7 @@ returns c =
     let h = first .magnitude .ensures ∙ ap natAbs (stored-id (height-fits s)) in
     let r = stored-id (sights-fits s) in
     let d = c .magnitude2 .ensures ∙ ap natAbs (stored-id (difference-fits s)) in
-    λ i. leb (s .args .u .count) 200 && leb (h i) 25000000 && between (pos 0) (r i) (pos 600000) && leb (d i) 1000000
+    λ i. leb (s .args .u .count) 200 && leb (h i) mostG && between (pos 0) (r i) (pos mostS) && leb (d i) mostDifference
 
 pub run-fits-spec : {M : Type 1} → statement M
 run-fits-spec = tie.close (tie.spec magnitude-requires magnitude-requires-2 returns)

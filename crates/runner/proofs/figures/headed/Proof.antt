@@ -1,7 +1,6 @@
 -- `headed` meets its contract: before place k is copied, the list holds the first k numbers, and zeros.
-use mathlib.Core.Path.{_≡_, refl, sym, ap, _∙_}
-use Prim.Native.Nat.{ℕ, _-_, _≤_, _<_}
-use native.Mathlib.Numerals.{add-one}
+use mathlib.Core.Path.{_≡_, refl, ap, _∙_}
+use Prim.Native.Nat.{_-_, _≤_, _<_}
 use native.Mathlib.Omega.{arith}
 use borrow.Author.Needs.{needs}
 use lib.ListN.{length, getD, set, take}
@@ -57,8 +56,7 @@ loop-again c =
     let here : k < 10 = omega arith in (
       omega arith,
       (λ i. set (l .loop .inv .1 i) k (stored-id (figure-fits c) i))
-          ∙ filled-next (pos 0) 270 head k (pos 0) (omega (arith, head-long s)) (omega arith)
-          ∙ ap (λ (n : ℕ). filled (pos 0) 270 (take n head)) (sym (add-one k)),
+          ∙ filled-next (pos 0) 270 head k (pos 0) (omega (arith, head-long s)) (omega arith),
     )
 
 returns : tie.Need-returns Inv-loop μ-loop

@@ -1,24 +1,25 @@
--- `list_of` meets its contract: before point k the list holds the head and the figures of the first k points, and zeros.
-use mathlib.Core.Path.{_≡_, sym, ap, _∙_}
-use mathlib.Core.List.{List, _++_, append-nil}
-use Prim.Native.Nat.{ℕ, _+_, _-_, _≤_, _<_}
+-- `list_of` meets its contract. The loop's invariant: with the figures of the points that are left to write, all are written.
+use mathlib.Core.Path.{_≡_, refl, ap, _∙_}
+use mathlib.Core.List.{List}
+use Prim.Native.Nat.{_+_, _-_, _*_, _≤_, _<_}
 use native.Mathlib.Omega.{arith}
 use borrow.Author.Needs.{needs}
-use lib.ListN.{length, getD, take}
+use lib.ListN.{length, getD, drop, length-set, drop-of-length-le}
 use lib.IntN.{ℤ, pos}
 use mir.Syntax.{w64}
 use mir.Val.{SFits}
-use Rattle.numbers.specs.Whole.{filled}
-use Rattle.numbers.proofs.Filled.{filled-take}
+use Rattle.numbers.specs.Whole.{putAt}
+use Rattle.numbers.proofs.Arrays.{put-all}
+use Rattle.numbers.proofs.Filled.{filled-length}
 use Rattle.numbers.proofs.Machine.{stored-id}
 use Rattle.adjust.specs.Frames.{noPoint}
 use Rattle.runner.specs.Figures.{pointFigures}
-use Rattle.runner.proofs.Lists.{upTo, up-to-next, up-to-all}
+use Rattle.runner.proofs.Lists.{points-next, head-and-points}
 use Rattle.runner.proofs.figures.list_of.Statement.{statement}
 use Rattle.runner.proofs.figures.list_of.Tie as tie
 
 abbrev Inv-loop : tie.InvT-loop
-Inv-loop points list₀ k₀ list k = (k ≤ 65) × (list ≡ upTo (take 10 list₀) points k)
+Inv-loop points list₀ k₀ list k = (k ≤ 65) × (length list ≡ 270) × (putAt list (4 * k + 10) (pointFigures (drop k points)) ≡ putAt list₀ 10 (pointFigures points))
 
 abbrev μ-loop : tie.MeasureT-loop
 μ-loop points list₀ k₀ list k = 65 - k
@@ -32,16 +33,8 @@ head-long s = search needs
 points-long : (s : tie.Start Inv-loop μ-loop) → length (s .args .t2) ≡ 65
 points-long s = search needs
 
-front : (c : tie.After-headed Inv-loop μ-loop) → take 10 (c .headed .result) ≡ c .before .args .head
-front c =
-    let head = c .before .args .head in
-    let long = head-long (c .before) in
-    ap (take 10) (c .headed .ensures) ∙ ap (λ (n : ℕ). take n (filled (pos 0) 270 head)) (sym long) ∙ filled-take (pos 0) 270 head (omega (arith, long))
-
 loop-holds : tie.Need-loop-holds Inv-loop μ-loop
-unfolding pointFigures
-loop-holds c =
-    (omega arith, c .headed .ensures ∙ ap (filled (pos 0) 270) (sym (append-nil (take 10 (c .headed .result)) ∙ front c)))
+loop-holds c = (omega arith, ap length (c .headed .ensures) ∙ filled-length (pos 0) 270 (c .before .args .head), refl)
 
 mul-point : tie.Need-mul-point Inv-loop μ-loop
 mul-point c = omega arith
@@ -114,18 +107,22 @@ loop-again c =
     let k = l .loop .k in
     let here : k < 65 = omega arith in (
       omega arith,
-      up-to-next (take 10 (h .headed .result)) (s .args .t2) (ap length (front h) ∙ head-long s) (points-long s) k here (l .loop .inv .1)
-          (stored-id (number (c .before .before .before))) (stored-id (distance (c .before .before))) (stored-id (correction (c .before))) (stored-id (height c)),
+      simp length-set (l .loop .inv .1),
+      points-next (s .args .t2) k (omega (arith, points-long s)) (l .loop .list) (omega (arith, l .loop .inv .1))
+          (stored-id (number (c .before .before .before))) (stored-id (distance (c .before .before))) (stored-id (correction (c .before))) (stored-id (height c))
+          ∙ l .loop .inv .2,
     )
 
 returns : tie.Need-returns Inv-loop μ-loop
+unfolding pointFigures
 returns c =
     let l = c .before in
     let h = l .before in
     let s = h .before in
-    let all : l .loop .k ≡ 65 = omega arith in
-    l .loop .inv .1 ∙ up-to-all (take 10 (h .headed .result)) (s .args .t2) (ap length (front h) ∙ head-long s) (points-long s) (l .loop .k) all
-    ∙ ap (λ (xs : List ℤ). xs ++ pointFigures (s .args .t2)) (front h)
+    let none = ap pointFigures (drop-of-length-le (s .args .t2) {i = l .loop .k} (omega (arith, points-long s))) in
+    put-all (l .loop .list) (4 * l .loop .k + 10) none (l .loop .inv .2)
+    ∙ ap (λ (xs : List ℤ). putAt xs 10 (pointFigures (s .args .t2))) (h .headed .ensures)
+    ∙ head-and-points (s .args .head) (s .args .t2) (head-long s) (points-long s)
 
 pub list-of-spec : {M : Type 1} → statement M
 list-of-spec =

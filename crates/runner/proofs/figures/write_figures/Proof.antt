@@ -3,8 +3,8 @@ use mathlib.Core.Path.{sym, ap, subst, _∙_}
 use mathlib.Core.List.{List, _++_}
 use Prim.Native.Nat.{_≤_}
 use lib.IntN.{ℤ}
+use Rattle.numbers.specs.Whole.{written}
 use Rattle.adjust.specs.declared.Adjusted.{Adjusted}
-use Rattle.runner.specs.Calls.{written}
 use Rattle.runner.specs.Figures.{headFigures, pointFigures}
 use Rattle.runner.proofs.Lists.{few}
 use borrow.Author.Needs.{needs}

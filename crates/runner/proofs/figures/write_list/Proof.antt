@@ -5,15 +5,14 @@ use mathlib.Core.Logic.{⊎-elim}
 use Prim.Native.Nat.{_-_, _≤_, _<_}
 use native.Mathlib.Omega.{arith}
 use borrow.Author.Needs.{needs}
-use lib.ListN.{length, getD, take}
+use lib.ListN.{length, getD, set, take}
 use lib.Seq.{take-all}
 use lib.IntN.{ℤ, pos}
 use mir.Syntax.{w64}
 use mir.Val.{SFits}
+use Rattle.numbers.specs.Whole.{written}
 use Rattle.numbers.proofs.Machine.{stored-id}
-use Rattle.runner.specs.Calls.{written}
-use Rattle.runner.proofs.Laws.{written-none, written-long}
-use Rattle.runner.proofs.Lists.{figure-written, figure-left-out}
+use Rattle.numbers.proofs.Arrays.{written-none, written-long, written-next, written-over}
 use Rattle.runner.proofs.figures.write_list.Statement.{statement}
 use Rattle.runner.proofs.figures.write_list.Tie as tie
 
@@ -63,9 +62,9 @@ loop-again c =
       ⊎-elim
           (λ w.
           w .2
-          ∙ figure-written list old k here (omega (arith, same, w .0 .taken)) (l .loop .inv .1)
-          (stored-id (figure-fits (record { before = record { before = c .before; if1 = w .0 }; figure = w .1 }))))
-          (λ w. w .1 ∙ l .loop .inv .1 ∙ figure-left-out list old k here (omega (arith, same, w .0 .left)))
+          ∙ (λ i. set (l .loop .inv .1 i) k (stored-id (figure-fits (record { before = record { before = c .before; if1 = w .0 }; figure = w .1 })) i))
+          ∙ written-next list old k (pos 0) here (omega (arith, same, w .0 .taken)))
+          (λ w. w .1 ∙ l .loop .inv .1 ∙ written-over list old k (omega (arith, same, w .0 .left)))
           (c .if1 .came),
     )
 

@@ -1,5 +1,5 @@
 -- `call_of` meets its contract: before number k is copied, the call holds its kind, the first k numbers, and zeros.
-use mathlib.Core.Path.{_≡_, refl, sym, ap, _∙_}
+use mathlib.Core.Path.{_≡_, refl, ap, _∙_}
 use mathlib.Core.List.{List, _∷_}
 use Prim.Native.Nat.{ℕ, _+_, _-_, _≤_, _<_}
 use native.Mathlib.Numerals.{add-one}
@@ -24,7 +24,6 @@ module _ (a : ℤ) (v : List ℤ) (ten : length v ≡ 10) (k : ℕ) where
   next h e f =
       (λ i. set (e i) (add-one k i) (f i))
       ∙ ap (λ (l : List ℤ). a ∷ l) (filled-next (pos 0) 10 v k (pos 0) (omega arith) h)
-      ∙ ap upTo (sym (add-one k))
 
   all : k ≡ 10 → upTo k ≡ a ∷ v
   all e = ap (λ (l : List ℤ). a ∷ l) (ap (filled (pos 0) 10) (take-all k v (omega arith)) ∙ filled-full (pos 0) 10 v ten)

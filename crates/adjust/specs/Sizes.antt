@@ -1,0 +1,35 @@
+-- The most of each figure: document 01's where it has a range, and elsewhere so that all figures of up to 64 sections fit 64 bits.
+use Prim.Native.Nat.{ℕ, _+_, _*_}
+
+-- a known height, in mm
+abbrev pub highest : ℕ
+highest = 8999999
+
+-- of a section: Q in quarter mm, R in half dm, D in half mm, and t. No section of a book made by calls has more
+abbrev pub mostQ : ℕ
+mostQ = 50000000
+
+abbrev pub mostR : ℕ
+mostR = 1200000
+
+abbrev pub mostD : ℕ
+mostD = 100000
+
+abbrev pub mostT : ℕ
+mostT = 500000 * (mostD * mostD) + 1
+
+-- of a line: T, ΣQ, L, W and a printed height
+abbrev pub mostSumT : ℕ
+mostSumT = mostT * 64
+
+abbrev pub mostSumQ : ℕ
+mostSumQ = mostQ * 64
+
+abbrev pub mostL : ℕ
+mostL = mostR * 64
+
+abbrev pub mostW : ℕ
+mostW = 4 * highest + mostSumQ + 4 * highest
+
+abbrev pub mostPrinted : ℕ
+mostPrinted = 499999999999999999
