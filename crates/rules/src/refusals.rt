@@ -1,4 +1,4 @@
-// The refusals of the calls: what the input alone causes, then 20, then what the book's state causes, the first that applies.
+// The refusals of the calls: what the input alone causes, a station's apart, then 20, then what the book's state causes, the first that applies.
 ghost use mathlib.Core.Path.{_≡_};
 ghost use mathlib.Core.Bool.{false, not, cond};
 ghost use mathlib.Core.List.{_∷_};
@@ -106,7 +106,7 @@ fn station_state(b: Book, shut: bool, kb: i64, f: Figures) -> u8
     pick(!is_open(stage) | shut, 21, full)
 }
 
-// The refusal of a station whose readings were read: f are its figures, kb the constant of its back staff.
+// The refusal of a station with the figures f, whose back staff has the constant kb: 20 to 28, or 0. 6, 7 and 8 are told by `station::read`.
 pub fn station_refusal(b: Book, kb: i64, f: Figures) -> u8
     ensures { λ r. ⌜ r ≡ firstOf ((20, broken (standingOf b)) ∷ stationTests (standingOf b) kb f) ⌝ }
 {
