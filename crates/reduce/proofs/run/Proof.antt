@@ -6,7 +6,7 @@ use Prim.Native.Nat.{ℕ, _≤_}
 use native.Mathlib.Omega.{arith}
 use lib.ListN.{length, take, length-take}
 use Rattle.numbers.specs.Whole.{putAt}
-use Rattle.columns.proofs.Put.{length-putAt}
+use Rattle.numbers.proofs.Arrays.{length-putAt}
 use Rattle.fieldbook.specs.Report.{printedOf}
 use Rattle.fieldbook.proofs.Bytes.{printed-fits}
 use borrow.Author.Needs.{needs}
