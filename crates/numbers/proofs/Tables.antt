@@ -29,40 +29,30 @@ testOf n (t ∷ ts) = cond (eqb (t .0) n) (t .1) (testOf n ts)
 
 pub failed : (ts : List (ℕ × Bool)) → numbered ts ≡ true → firstOf ts ≡ 0 → (n : ℕ) → testOf n ts ≡ false
 failed [] k e n = refl
-failed (t ∷ ts) k e n = go (t .1) (and-l (not (eqb (t .0) 0)) (numbered ts) k) (λ f. failed ts (and-r (not (eqb (t .0) 0)) (numbered ts) k) f n) e
-  where
-    go : (b : Bool) → not (eqb (t .0) 0) ≡ true → (firstOf ts ≡ 0 → testOf n ts ≡ false) → cond b (t .0) (firstOf ts) ≡ 0
-        → cond (eqb (t .0) n) b (testOf n ts) ≡ false
-    go true h g e = no-true (subst (λ (m : ℕ). not (eqb m 0) ≡ true) e h)
-    go false h g e = by-test (eqb (t .0) n) (λ s. cond s false (testOf n ts) ≡ false) (λ s. refl) (λ s. g e)
+failed (t ∷ ts) k e n =
+    by-test (t .1) (λ b. cond b (t .0) (firstOf ts) ≡ 0 → cond (eqb (t .0) n) b (testOf n ts) ≡ false)
+    (λ b z. no-true (subst (λ (m : ℕ). not (eqb m 0) ≡ true) z (and-l (not (eqb (t .0) 0)) (numbered ts) k)))
+    (λ b z. by-test (eqb (t .0) n) (λ s. cond s false (testOf n ts) ≡ false) (λ s. refl) (λ s. failed ts (and-r (not (eqb (t .0) 0)) (numbered ts) k) z n)) e
 
 -- whatever stands before a test that holds
 pub met : (ts : List (ℕ × Bool)) (n : ℕ) → numbered ts ≡ true → eqb n 0 ≡ false → eqb (firstOf (ts ++ ((n, true) ∷ []))) 0 ≡ false
 met [] n k h = h
-met (t ∷ ts) n k h = go (t .1) (met ts n (and-r (not (eqb (t .0) 0)) (numbered ts) k) h)
-  where
-    go : (b : Bool) → eqb (firstOf (ts ++ ((n, true) ∷ []))) 0 ≡ false → eqb (cond b (t .0) (firstOf (ts ++ ((n, true) ∷ [])))) 0 ≡ false
-    go true g = not-true (eqb (t .0) 0) (and-l (not (eqb (t .0) 0)) (numbered ts) k)
-    go false g = g
+met (t ∷ ts) n k h =
+    by-test (t .1) (λ b. eqb (cond b (t .0) (firstOf (ts ++ ((n, true) ∷ [])))) 0 ≡ false)
+    (λ b. not-true (eqb (t .0) 0) (and-l (not (eqb (t .0) 0)) (numbered ts) k)) (λ b. met ts n (and-r (not (eqb (t .0) 0)) (numbered ts) k) h)
 
 -- a table in two parts: the first part's number, or else the second's
 pub first-append : (ts us : List (ℕ × Bool)) → numbered ts ≡ true → firstOf (ts ++ us) ≡ cond (eqb (firstOf ts) 0) (firstOf us) (firstOf ts)
 first-append [] us k = refl
-first-append (t ∷ ts) us k = go (t .1) (first-append ts us (and-r (not (eqb (t .0) 0)) (numbered ts) k))
-  where
-    go : (b : Bool) → firstOf (ts ++ us) ≡ cond (eqb (firstOf ts) 0) (firstOf us) (firstOf ts)
-        → cond b (t .0) (firstOf (ts ++ us)) ≡ cond (eqb (cond b (t .0) (firstOf ts)) 0) (firstOf us) (cond b (t .0) (firstOf ts))
-    go true g = sym (rw (not-true (eqb (t .0) 0) (and-l (not (eqb (t .0) 0)) (numbered ts) k)))
-    go false g = g
+first-append (t ∷ ts) us k =
+    by-test (t .1) (λ b. cond b (t .0) (firstOf (ts ++ us)) ≡ cond (eqb (cond b (t .0) (firstOf ts)) 0) (firstOf us) (cond b (t .0) (firstOf ts)))
+    (λ b. sym (rw (not-true (eqb (t .0) 0) (and-l (not (eqb (t .0) 0)) (numbered ts) k)))) (λ b. first-append ts us (and-r (not (eqb (t .0) 0)) (numbered ts) k))
 
 -- where a table gives no number, its first part gives none
 pub first-none : (ts us : List (ℕ × Bool)) → firstOf (ts ++ us) ≡ 0 → firstOf ts ≡ 0
 first-none [] us e = refl
-first-none (t ∷ ts) us e = go (t .1) (first-none ts us) e
-  where
-    go : (b : Bool) → (firstOf (ts ++ us) ≡ 0 → firstOf ts ≡ 0) → cond b (t .0) (firstOf (ts ++ us)) ≡ 0 → cond b (t .0) (firstOf ts) ≡ 0
-    go true g e = e
-    go false g e = g e
+first-none (t ∷ ts) us e =
+    by-test (t .1) (λ b. cond b (t .0) (firstOf (ts ++ us)) ≡ 0 → cond b (t .0) (firstOf ts) ≡ 0) (λ b z. z) (λ b z. first-none ts us z) e
 
 -- a test that fails stands in a table for nothing
 pub first-skips : (ts us : List (ℕ × Bool)) (n : ℕ) → firstOf (ts ++ ((n, false) ∷ us)) ≡ firstOf (ts ++ us)
@@ -72,11 +62,9 @@ first-skips (t ∷ ts) us n = ap (cond (t .1) (t .0)) (first-skips ts us n)
 -- what each number satisfies, and 0, the number that is given satisfies
 pub first-each : (p : ℕ → Bool) (ts : List (ℕ × Bool)) → eachNumber p ts ≡ true → p 0 ≡ true → p (firstOf ts) ≡ true
 first-each p [] k z = z
-first-each p (t ∷ ts) k z = go (t .1) (first-each p ts (and-r (p (t .0)) (eachNumber p ts) k) z)
-  where
-    go : (b : Bool) → p (firstOf ts) ≡ true → p (cond b (t .0) (firstOf ts)) ≡ true
-    go true g = and-l (p (t .0)) (eachNumber p ts) k
-    go false g = g
+first-each p (t ∷ ts) k z =
+    by-test (t .1) (λ b. p (cond b (t .0) (firstOf ts)) ≡ true) (λ b. and-l (p (t .0)) (eachNumber p ts) k)
+    (λ b. first-each p ts (and-r (p (t .0)) (eachNumber p ts) k) z)
 
 -- ---- the lowest number
 
