@@ -4,7 +4,7 @@ use std::collections::BTreeMap;
 use level_tests::fraction::narrow;
 use level_tests::generate::book;
 use level_tests::mutate::any_call;
-use level_tests::plain::{Answer, Call, Closing, Point, Reading};
+use level_tests::plain::{Answer, Call, Closing, Opened, Point, Reading};
 use level_tests::random::Random;
 use level_tests::station::{accumulated_d, sum_of_heights, sum_of_sights};
 use level_tests::write::numbers_of;
@@ -24,7 +24,7 @@ fn eleven(random: &mut Random, call: &Call) -> [i64; 11] {
 fn typed(call: &Call) -> levelbook::Call {
     let staff = |constant, [upper, lower, black, red]: [i64; 4]| levelbook::Staff { constant, upper, lower, black, red };
     match *call {
-        Call::Open { order, instrument, start, height } => levelbook::Call::Open { order, instrument, start, height },
+        Call::Open(Opened { order, instrument, start, height }) => levelbook::Call::Open { order, instrument, start, height },
         Call::Station { back_k, fore_k, readings } => levelbook::Call::Station { back: staff(back_k, readings[0]), fore: staff(fore_k, readings[1]) },
         Call::EndRun(number) => levelbook::Call::EndRun { number },
         Call::DropRun => levelbook::Call::DropRun,
