@@ -11,7 +11,7 @@ use super::effects::opened;
 use super::effects::run_dropped;
 use super::effects::run_ended;
 use super::effects::section_dropped;
-use super::effects::with_taken_station;
+use super::effects::with_station;
 use adjust::Section;
 use adjust::Sections;
 use rules::Book;
@@ -103,7 +103,7 @@ pub fn station(b: Book, kb: i64, kf: i64, readings: [[i64; 4]; 2]) -> Change
             if code != 0 {
                 return moved(code, b.line);
             }
-            moved(0, with_taken_station(b.line, f, kf))
+            moved(0, with_station(b.line, f, kf))
         }
     }
 }

@@ -92,26 +92,21 @@ pub(crate) fn opened(order: i64, instrument: i64, number: i64, height: i64) -> L
 
 // ---- station
 
-fn with_station(u: Run, f: Figures, kf: i64) -> Run
-    requires { ⌜ SmallRun u × Small f ⌝ }
-    ensures { λ r. ⌜ r ≡ withStation u f kf ⌝ }
+// The line with the present run's sums and a station's.
+pub(crate) fn with_station(line: Line, f: Figures, kf: i64) -> Line
+    requires { ⌜ SmallRun (line .present) × Small f ⌝ }
+    ensures { λ r. ⌜ r ≡ withRuns line (line .waiting) (withStation (line .present) f kf) ⌝ }
 {
-    Run {
+    let waiting = line.waiting;
+    let u = line.present;
+    let present = Run {
         count: u.count + 1,
         height: u.height + f.height,
         sights: u.sights + (f.back.sight + f.fore.sight),
         difference: u.difference + f.difference,
         last: kf,
-    }
-}
-
-pub(crate) fn with_taken_station(line: Line, f: Figures, kf: i64) -> Line
-    requires { ⌜ SmallRun (line .present) × Small f ⌝ }
-    ensures { λ r. ⌜ r ≡ withRuns line (line .waiting) (withStation (line .present) f kf) ⌝ }
-{
-    let waiting = line.waiting;
-    let present = line.present;
-    with_runs(line, waiting, with_station(present, f, kf))
+    };
+    with_runs(line, waiting, present)
 }
 
 // ---- end run

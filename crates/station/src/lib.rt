@@ -218,10 +218,11 @@ fn difference_within(x: i64, y: i64, limit: u64) -> bool
     is_within(x - y, limit)
 }
 
-// The first limit that the figures break: 24 to 28, or 0.
-fn judged(l: Limits, accumulated: i64, f: Figures) -> u8
-    ensures { λ r. ⌜ r ≡ firstOf (limitTests l accumulated f) ⌝ }
+// The refusal that the limits of an order and an instrument cause to any figures: 24 to 28, or 0. accumulated is the sum of d before this station.
+pub fn judge(order: Order, instrument: Instrument, accumulated: i64, f: Figures) -> u8
+    ensures { λ r. ⌜ r ≡ firstOf (limitTests (limitsOf order instrument) accumulated f) ⌝ }
 {
+    let l = limits_of(order, instrument);
     let faces = pick(!difference_within(f.back.face, f.fore.face, l.faces), 28, 0);
     let face = pick(!both_within(f.back.face, f.fore.face, l.face), 27, faces);
     let sum = pick(
@@ -235,11 +236,4 @@ fn judged(l: Limits, accumulated: i64, f: Figures) -> u8
         24,
         difference,
     )
-}
-
-// The refusal that the limits of an order and an instrument cause to any figures: 24 to 28, or 0. accumulated is the sum of d before this station.
-pub fn judge(order: Order, instrument: Instrument, accumulated: i64, f: Figures) -> u8
-    ensures { λ r. ⌜ r ≡ firstOf (limitTests (limitsOf order instrument) accumulated f) ⌝ }
-{
-    judged(limits_of(order, instrument), accumulated, f)
 }

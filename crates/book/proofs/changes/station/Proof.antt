@@ -89,8 +89,8 @@ returns c =
     let s = r .before .before .before .before .before in
     makes-refused (s .args .b) (same s) (number r) (t .if1 .taken) (c .moved2 .ensures)
 
-with-taken-station-requires : tie.Need-with-taken-station-requires
-with-taken-station-requires c κs =
+with-station-requires : tie.Need-with-station-requires
+with-station-requires c κs =
     let r = c .before in
     let k = r .before .before in
     let s = k .before .before .before in (
@@ -109,7 +109,7 @@ returns-3 c =
     let k = r .before .before in
     let s = k .before .before .before in
     let l = s .args .b .line in
-    let line = d .with-taken-station .ensures ∙ ap (λ (f : Figures). withRuns l (l .waiting) (withStation (l .present) f (stored (s .args .kf)))) (taken k .1) in
+    let line = d .with-station .ensures ∙ ap (λ (f : Figures). withRuns l (l .waiting) (withStation (l .present) f (stored (s .args .kf)))) (taken k .1) in
     makes-moved (s .args .b) (same s) (number r) (whole s) (e .if1 .left) (c .moved3 .ensures) line refl
 
 pub station-spec : {M : Type 1} → statement M
@@ -123,7 +123,7 @@ station-spec =
     station-refusal-requires
     moved-requires-2
     returns
-    with-taken-station-requires
+    with-station-requires
     moved-requires-3
     returns-2
     returns-3)
