@@ -15,7 +15,7 @@ use Rattle.numbers.proofs.Tests.{by-test}
 use Rattle.numbers.proofs.Ring.{ringℤ, mul-addℤ, mul-oneℤ, mul-assocℤ}
 use Rattle.numbers.proofs.Parts.{posPart, negPart, ints, parts-le, parts-eq, parts-sub, parts-abs, parts-times, pos-abs}
 use Rattle.numbers.proofs.Sizes.{abs-neg, abs-sub, abs-sub-pos, abs-mul, abs-apart, parity-add, parity-sub}
-use Rattle.roots.specs.Round.{IsRound, floorDiv, roundEven, divisor}
+use Rattle.roots.specs.Round.{IsRound, floorDiv, roundEven, greatestDivisor, divisor}
 use Rattle.roots.proofs.Floor.{floor-split}
 
 -- ---- roundEven rounds
@@ -193,10 +193,10 @@ round-size n d h = omega (arith, mag-round n (roundEven n d) d h (round-is n d h
 
 -- ---- the divisor that a number stands for
 
-pub divisor-in : (d : ℤ) → pos 1 ≤ℤ d → natAbs d ≤ 4000000000000000000 → divisor d ≡ natAbs d
+pub divisor-in : (d : ℤ) → pos 1 ≤ℤ d → natAbs d ≤ greatestDivisor → divisor d ≡ natAbs d
 divisor-in (pos d) h k = omega ints
 divisor-in (negsuc d) h k = absurd (h .le)
 
-pub divisor-range : (d : ℤ) → (1 ≤ divisor d) × (divisor d ≤ 4000000000000000000)
+pub divisor-range : (d : ℤ) → (1 ≤ divisor d) × (divisor d ≤ greatestDivisor)
 divisor-range (pos d) = (omega arith, omega arith)
 divisor-range (negsuc d) = (omega arith, omega arith)

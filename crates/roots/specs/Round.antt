@@ -23,7 +23,11 @@ roundEven n d =
     let left : ℕ = natAbs (n -ℤ pos d *ℤ q) in
     cond (ltb d (2 * left + natAbs q % 2)) (q +ℤ pos 1) q
 
+-- twice what is left over a divisor fits 64 bits for divisors up to this one
+abbrev pub greatestDivisor : ℕ
+greatestDivisor = 4000000000000000000
+
 -- the divisors that `round_half_even` takes are 1 to 4 × 10¹⁸: any other number stands for the nearest of these
 abbrev pub divisor : ℤ → ℕ
-divisor (pos d) = min 4000000000000000000 (max 1 d)
+divisor (pos d) = min greatestDivisor (max 1 d)
 divisor (negsuc d) = 1

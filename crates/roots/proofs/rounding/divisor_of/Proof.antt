@@ -11,19 +11,19 @@ use mir.Syntax.{w64}
 use mir.Val.{SFits}
 use Rattle.numbers.proofs.Tests.{by-test}
 use Rattle.numbers.proofs.Machine.{stored-id, literal-as, lt-as, cond-as}
-use Rattle.roots.specs.Round.{divisor}
+use Rattle.roots.specs.Round.{greatestDivisor, divisor}
 use Rattle.roots.proofs.rounding.divisor_of.Statement.{statement}
 use Rattle.roots.proofs.rounding.divisor_of.Tie as tie
 
-clamps : (d : ℤ) → cond (ltZ d (pos 1)) (pos 1) (cond (ltZ (pos 4000000000000000000) d) (pos 4000000000000000000) d) ≡ pos (divisor d)
+clamps : (d : ℤ) → cond (ltZ d (pos 1)) (pos 1) (cond (ltZ (pos greatestDivisor) d) (pos greatestDivisor) d) ≡ pos (divisor d)
 clamps (pos d) =
-    by-test (ltb d 1) (λ t. cond t (pos 1) (cond (ltb 4000000000000000000 d) (pos 4000000000000000000) (pos d)) ≡ pos (divisor (pos d)))
+    by-test (ltb d 1) (λ t. cond t (pos 1) (cond (ltb greatestDivisor d) (pos greatestDivisor) (pos d)) ≡ pos (divisor (pos d)))
     (λ t. let h : d < 1 = ltb→lt d 1 t in ap pos (omega arith))
     (λ t.
     let h : 1 ≤ d = nltb→le d 1 t in
-    by-test (ltb 4000000000000000000 d) (λ u. cond u (pos 4000000000000000000) (pos d) ≡ pos (divisor (pos d)))
-    (λ u. let k : 4000000000000000000 < d = ltb→lt 4000000000000000000 d u in ap pos (omega arith))
-    (λ u. let k : d ≤ 4000000000000000000 = nltb→le 4000000000000000000 d u in ap pos (omega arith)))
+    by-test (ltb greatestDivisor d) (λ u. cond u (pos greatestDivisor) (pos d) ≡ pos (divisor (pos d)))
+    (λ u. let k : greatestDivisor < d = ltb→lt greatestDivisor d u in ap pos (omega arith))
+    (λ u. let k : d ≤ greatestDivisor = nltb→le greatestDivisor d u in ap pos (omega arith)))
 clamps (negsuc d) = refl
 
 select-requires : tie.Need-select-requires
@@ -40,7 +40,7 @@ returns c =
     stored-id outer ∙ c .select2 .ensures
     ∙ cond-as (lt-as d (literal-as (pos 1))) (literal-as (pos 1))
     (stored-id inner ∙ c .before .select .ensures
-    ∙ cond-as (lt-as (literal-as (pos 4000000000000000000)) d) (literal-as (pos 4000000000000000000)) d)
+    ∙ cond-as (lt-as (literal-as (pos greatestDivisor)) d) (literal-as (pos greatestDivisor)) d)
     ∙ clamps (c .before .before .args .d)
 
 pub divisor-of-spec : {M : Type 1} → statement M

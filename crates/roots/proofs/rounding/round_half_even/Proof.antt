@@ -12,7 +12,7 @@ use mir.Val.{SFits, toZ, boolByte}
 use Rattle.numbers.proofs.Parts.{ints, parts-abs, pos-abs}
 use Rattle.numbers.proofs.Sizes.{abs-neg, square-abs}
 use Rattle.numbers.proofs.Machine.{stored, stored-id, stored-as, fits-as, abs-fits, literal-as, add-as, mul-as, quot-as, rem-as, lt-as, bool-as}
-use Rattle.roots.specs.Round.{roundEven, floorDiv, divisor}
+use Rattle.roots.specs.Round.{roundEven, floorDiv, greatestDivisor, divisor}
 use Rattle.roots.proofs.Floor.{floor-split, floor-fits, quot-fits}
 use Rattle.roots.proofs.RoundLaws.{round-fits, divisor-range}
 use Rattle.roots.proofs.rounding.round_half_even.Statement.{statement}
@@ -58,7 +58,7 @@ rounds n d = stepped (up n d) (floorDiv n d)
 record Given (n e q r : ℤ) (d : ℕ) : Type 0 where
   n-fits : SFits w64 n
   low : 1 ≤ d
-  high : d ≤ 4000000000000000000
+  high : d ≤ greatestDivisor
   e-is : e ≡ pos d
   q-is : q ≡ floorDiv n d
   r-is : r ≡ n -ℤ pos d *ℤ floorDiv n d
