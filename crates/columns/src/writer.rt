@@ -1,8 +1,9 @@
 // Lines written into a lent buffer.
 ghost use mathlib.Core.Path.{_≡_};
-ghost use mathlib.Core.Bool.{true, false};
+ghost use mathlib.Core.Bool.{true, false, _&&_};
 ghost use mathlib.Core.List.{_++_};
 ghost use Prim.Native.Nat.{_+_, _-_, _≤_};
+ghost use lib.Dec.{leb};
 ghost use lib.ListN.{length};
 ghost use Rattle.numbers.specs.Whole.{putAt};
 ghost use Rattle.columns.specs.Buffers.{placed};
@@ -179,28 +180,32 @@ fn write_line(buf: &mut [u8], at: usize, tag: &[u8], numbers: &[i64], wide: bool
     put_bytes(buf, at + used, &blank[used..84]);
 }
 
-// The line of a tag and numbers from index at on, the last field wide or not. Nothing is written where they do not fit, or the buffer has no room.
-pub fn put_line(buf: &mut [u8], at: usize, tag: &[u8], numbers: &[i64], wide: bool)
-    ensures { λ _. ⌜ now (buf .exit) ≡ placed (now (buf .entry)) at (tagLine (now (tag .entry)) (now (numbers .entry)) wide) ⌝ }
+// The line of a tag and numbers from index at on, the last field wide or not: whether it was written. Nothing is where they do not fit, or the
+// buffer has no room.
+pub fn put_line(buf: &mut [u8], at: usize, tag: &[u8], numbers: &[i64], wide: bool) -> bool
+    ensures { λ r. ⌜ r ≡ lineFits (length (now (tag .entry))) (now (numbers .entry)) wide && leb (at + 84) (length (now (buf .entry))) ⌝ }
+    ensures { λ r. ⌜ now (buf .exit) ≡ placed (now (buf .entry)) at (tagLine (now (tag .entry)) (now (numbers .entry)) wide) ⌝ }
 {
     if !line_fits(tag.len(), numbers, wide) {
-        return;
+        return false;
     }
     if buf.len() < 84 {
-        return;
+        return false;
     }
     if buf.len() - 84 < at {
-        return;
+        return false;
     }
     write_line(buf, at, tag, numbers, wide);
+    true
 }
 
-// The report's title from index at on, where the buffer has room for it.
-pub fn put_title(buf: &mut [u8], at: usize)
-    ensures { λ _. ⌜ now (buf .exit) ≡ placed (now (buf .entry)) at title ⌝ }
+// The report's title from index at on: whether the buffer had room for it.
+pub fn put_title(buf: &mut [u8], at: usize) -> bool
+    ensures { λ r. ⌜ r ≡ leb (at + 84) (length (now (buf .entry))) ⌝ }
+    ensures { λ r. ⌜ now (buf .exit) ≡ placed (now (buf .entry)) at title ⌝ }
 {
     let none = [0i64; 0];
-    put_line(buf, at, b"REDUCED LEVELS", &none, false);
+    put_line(buf, at, b"REDUCED LEVELS", &none, false)
 }
 
 // Whether a height takes a wide field.

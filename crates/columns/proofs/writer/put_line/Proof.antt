@@ -1,11 +1,12 @@
 -- `put_line` meets its contract: a line that does not fit, or for which there is no room, is not written.
 use mathlib.Core.Path.{_≡_, sym, ap, _∙_}
-use mathlib.Core.Bool.{true}
+use mathlib.Core.Bool.{true, _&&_}
 use mathlib.Core.List.{List}
-use Prim.Native.Nat.{ℕ}
+use Prim.Native.Nat.{ℕ, _+_}
 use native.Mathlib.Omega.{arith}
-use borrow.Author.Tests.{not-true, not-false}
+use borrow.Author.Tests.{not-true, not-false, le-leb, lt-leb}
 use borrow.Author.Needs.{needs}
+use lib.Dec.{leb}
 use lib.ListN.{length}
 use Rattle.numbers.specs.Whole.{putAt}
 use Rattle.columns.specs.Buffers.{placed}
@@ -32,14 +33,17 @@ returns : tie.Need-returns
 returns c =
     let f = c .before in
     let a = f .before .before .before .args in
-    let e = line-none (a .tag .now) (a .numbers .now) (a .wide) (sym (f .line-fits .ensures) ∙ not-true (f .line-fits .result) (c .if1 .taken)) in
-    sym (ap (placed (a .buf .now) (a .at)) e ∙ placed-empty (a .buf .now) (a .at))
+    let none = sym (f .line-fits .ensures) ∙ not-true (f .line-fits .result) (c .if1 .taken) in
+    let e = line-none (a .tag .now) (a .numbers .now) (a .wide) none in
+    (λ i. sym none i && leb (a .at + 84) (length (a .buf .now)), sym (ap (placed (a .buf .now) (a .at)) e ∙ placed-empty (a .buf .now) (a .at)))
 
 returns-2 : tie.Need-returns-2
 returns-2 c =
     let e = c .before in
-    let a = e .before .before .before .before .args in
-    sym (placed-none (a .buf .now) (a .at) (line (e .before)) (omega (arith, size e)))
+    let a = e .before .before .before .before .args in (
+      (λ i. sym (fitting e) i && sym (lt-leb (a .at + 84) (length (a .buf .now)) (omega arith)) i),
+      sym (placed-none (a .buf .now) (a .at) (line (e .before)) (omega (arith, size e))),
+    )
 
 sub-if3 : tie.Need-sub-if3
 sub-if3 c = search needs
@@ -47,8 +51,10 @@ sub-if3 c = search needs
 returns-3 : tie.Need-returns-3
 returns-3 c =
     let e = c .before .before in
-    let a = e .before .before .before .before .args in
-    sym (placed-none (a .buf .now) (a .at) (line (e .before)) (omega (arith, size e)))
+    let a = e .before .before .before .before .args in (
+      (λ i. sym (fitting e) i && sym (lt-leb (a .at + 84) (length (a .buf .now)) (omega arith)) i),
+      sym (placed-none (a .buf .now) (a .at) (line (e .before)) (omega (arith, size e))),
+    )
 
 write-line-requires : tie.Need-write-line-requires
 write-line-requires c κs = (fitting (c .before .before .before), omega arith)
@@ -60,10 +66,12 @@ returns-4 : tie.Need-returns-4
 returns-4 c =
     let w = c .before .before in
     let e = w .before .before .before .before in
-    let a = e .before .before .before .before .args in
-    w .write-line .ensures
-    ∙ ap (putAt (a .buf .now) (a .at)) (sym (line-is (a .tag .now) (a .numbers .now) (a .wide) (fitting e)))
-    ∙ sym (placed-room (a .buf .now) (a .at) (line (e .before)) (omega (arith, size e)))
+    let a = e .before .before .before .before .args in (
+      (λ i. sym (fitting e) i && sym (le-leb (a .at + 84) (length (a .buf .now)) (omega arith)) i),
+      w .write-line .ensures
+          ∙ ap (putAt (a .buf .now) (a .at)) (sym (line-is (a .tag .now) (a .numbers .now) (a .wide) (fitting e)))
+          ∙ sym (placed-room (a .buf .now) (a .at) (line (e .before)) (omega (arith, size e))),
+    )
 
 pub put-line-spec : {M : Type 1} → statement M
 put-line-spec =

@@ -49,7 +49,7 @@ returns c =
     let s = c .before .before .before .before .before .before .before .before .before .before in
     let d = s .args .buf .now in
     let x = s .args .s in
-    c .before .before .put-line .ensures
+    c .before .before .put-line .ensures .1
     ∙ (λ i. placed d (s .args .at)
     (tagLine (67 ∷ 76 ∷ 79 ∷ [])
     (stored-id (closure s) i ∷ stored-id (distance s) i ∷ cast-nat (x .count) (omega arith) i ∷ stored-id (accidental s) i

@@ -32,7 +32,7 @@ returns c =
     let s = c .before .before .before .before .before .before .before in
     let d = s .args .buf .now in
     let n = s .args .sections in
-    c .before .before .put-line .ensures
+    c .before .before .put-line .ensures .1
     ∙ ap (λ (z : ℤ). placed d (s .args .at) (tagLine (79 ∷ 80 ∷ 78 ∷ []) (z ∷ []) false)) (cast-nat n (omega arith))
     ∙ line-put d (s .args .at) (79 ∷ 80 ∷ 78 ∷ []) (pos n ∷ []) false (open-fits n (omega arith)) (omega arith)
 

@@ -45,7 +45,7 @@ returns c =
     let s = w .before .before .before .before .before .before .before in
     let d = s .args .buf .now in
     let x = s .args .p in
-    c .before .before .put-line .ensures
+    c .before .before .put-line .ensures .1
     ∙ (λ i. placed d (s .args .at)
     (tagLine (80 ∷ 78 ∷ 84 ∷ []) (stored-id (number s) i ∷ stored-id (distance s) i ∷ stored-id (correction s) i ∷ stored-id (height s) i ∷ []) ((w .is-wide .ensures ∙ ap isWide (stored-id (height s))) i)))
     ∙ line-put d (s .args .at) (80 ∷ 78 ∷ 84 ∷ []) (pointNumbers x) (isWide (x .height)) (s .pre .1) (s .pre .0)

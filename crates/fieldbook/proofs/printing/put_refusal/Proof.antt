@@ -55,7 +55,7 @@ returns-2 c =
     let fits = refusal-fits k n (omega (arith, s .pre .1)) (omega (arith, s .fits .number .fits)) in
     let zs : List ℤ = pos k ∷ pos n ∷ [] in (
       omega (arith, ap length some, length-line (82 ∷ 69 ∷ 70 ∷ []) zs false fits),
-      p .put-line .ensures
+      p .put-line .ensures .1
           ∙ (λ i. placed d (s .args .at) (tagLine (82 ∷ 69 ∷ 70 ∷ []) (cast-nat k (omega (arith, s .pre .1)) i ∷ cast-nat n (omega (arith, s .fits .number .fits)) i ∷ []) false))
           ∙ line-put d (s .args .at) (82 ∷ 69 ∷ 70 ∷ []) zs false fits (s .pre .0)
           ∙ ap (putAt d (s .args .at)) (sym some),

@@ -26,7 +26,7 @@ put-refusals-requires c κs = search needs
 titled : (c : tie.After-put-title) → c .put-title .last .0 ≡ putAt (c .before .before .before .before .before .args .buf .now) 0 title
 titled c =
     let s = c .before .before .before .before .before in
-    c .put-title .ensures ∙ placed-room (s .args .buf .now) 0 title (omega (arith, s .pre .0, length-title))
+    c .put-title .ensures .1 ∙ placed-room (s .args .buf .now) 0 title (omega (arith, s .pre .0, length-title))
 
 after-title : (c : tie.After-put-title) → length (c .put-title .last .0) ≡ length (c .before .before .before .before .before .args .buf .now)
 after-title c =
