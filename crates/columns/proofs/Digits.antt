@@ -10,7 +10,7 @@ use borrow.Author.Tests.{lt-ltb, le-ltb, le-leb, leb-true}
 use lib.Dec.{leb}
 use lib.ListN.{length, length-append}
 use Rattle.columns.specs.Decimals.{digitsBy, digits, valueOf}
-use Rattle.columns.specs.Parser.{isDigit, allDigits}
+use Rattle.columns.specs.code.Parser.{isDigit, allDigits}
 use Rattle.columns.proofs.Compare.{both}
 
 -- a number has one digit or more

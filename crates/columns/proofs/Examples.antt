@@ -5,7 +5,7 @@ use lib.IntN.{pos, negsuc}
 use lib.ListN.{length, take}
 use Rattle.numbers.specs.Whole.{putAt}
 use Rattle.columns.specs.declared.reader.Field.the-variants.{Number, Bad}
-use Rattle.columns.specs.declared.reader.Tag.the-variants.{Run}
+use Rattle.records.specs.declared.Tag.the-variants.{Run}
 use Rattle.columns.specs.Decimals.{blanks, digitsBy, digits, decimal, fitsIn, pad, same, valueOf, hasMinus, candidate, fieldOf}
 use Rattle.columns.specs.Lines.{lineEnd, lineWith, widthOf, fields, allFit, columnsOf, lineFits, tagLine, isWide, heading}
 use Rattle.columns.specs.Records.{letters, tagAmong, allNumbers, numbersIn, refusedLine, recordLine, numbersLine, recordIn, lineIn}

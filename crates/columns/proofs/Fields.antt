@@ -13,7 +13,7 @@ use Rattle.numbers.proofs.Tests.{by-test, is-true}
 use Rattle.columns.specs.declared.reader.Field.{Field}
 use Rattle.columns.specs.declared.reader.Field.the-variants.{Number, Bad}
 use Rattle.columns.specs.Decimals.{blanks, digits, decimal, fitsIn, pad, same, valueOf, hasMinus, candidate, fieldOf}
-use Rattle.columns.specs.Parser.{isDigit, allDigits}
+use Rattle.columns.specs.code.Parser.{isDigit, allDigits}
 use Rattle.columns.proofs.Lists.{left-next, left-none}
 use Rattle.columns.proofs.Compare.{both, same-true, same-equal}
 use Rattle.columns.proofs.Digits.{digit-range, all-digits, value-digits, digits-below}

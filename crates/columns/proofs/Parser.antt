@@ -13,7 +13,7 @@ use Rattle.numbers.proofs.Tests.{by-test, is-true, is-false, not-both}
 use Rattle.columns.specs.declared.reader.Field.{Field}
 use Rattle.columns.specs.declared.reader.Field.the-variants.{Number, Bad}
 use Rattle.columns.specs.Decimals.{blanks, digits, digitsBy, decimal, pad, same, valueOf, hasMinus, candidate, fieldOf}
-use Rattle.columns.specs.Parser.{leadingBlanks, isDigit, allDigits, runOf, naturalOf, negated}
+use Rattle.columns.specs.code.Parser.{leadingBlanks, isDigit, allDigits, runOf, naturalOf, negated}
 use Rattle.columns.proofs.Compare.{both}
 use Rattle.columns.proofs.Digits.{first-digit, digits-small, digits-value, digit-range}
 use Rattle.columns.proofs.Fields.{digits-only, length-pad-of, bad-number, field-written, written-field, field-is}

@@ -13,10 +13,9 @@ use Rattle.numbers.proofs.Tables.{first-lowest}
 use Rattle.numbers.proofs.Tests.{by-test}
 use Rattle.columns.specs.declared.reader.Field.{Field}
 use Rattle.columns.specs.declared.reader.Field.the-variants.{Number, Bad}
-use Rattle.columns.specs.declared.reader.Tag.{Tag}
-use Rattle.columns.specs.declared.reader.Tag.the-variants.{Lin, Sta, Run, Drr, Drs, End}
-use Rattle.columns.specs.declared.reader.Kind.{Kind}
-use Rattle.columns.specs.declared.reader.Kind.the-variants.{Record, Refused}
+use Rattle.records.specs.declared.Tag.{Tag}
+use Rattle.records.specs.declared.Kind.{Kind}
+use Rattle.records.specs.declared.Kind.the-variants.{Record, Refused}
 use Rattle.columns.specs.declared.reader.Line.{Line}
 use Rattle.columns.specs.Decimals.{same, fieldOf}
 use Rattle.columns.specs.Lines.{lineEnd}
@@ -73,14 +72,20 @@ module _ (tag : Tag) (n : ℕ) (t : List ℕ) where
 
 -- ---- tags
 
-module _ (t : Tag) (ts : List Tag) (w : List ℕ) where
-  pub tag-here : same w (letters t) ≡ true → tagAmong (t ∷ ts) w ≡ Record t
-  unfolding tagAmong
-  tag-here e = ap (λ (b : Bool). cond b (Record t) (tagAmong ts w)) e
+-- of a tag: its numbers are at most ten, its letters are three, and they are read as this tag
+pub record TagFacts (t : Tag) : Type 0 where
+  pub ten : fieldCount t ≤ 10
+  pub three : length (letters t) ≡ 3
+  pub back : tagAmong tags (letters t) ≡ Record t
 
-  pub tag-next : same w (letters t) ≡ false → tagAmong (t ∷ ts) w ≡ tagAmong ts w
-  unfolding tagAmong
-  tag-next e = ap (λ (b : Bool). cond b (Record t) (tagAmong ts w)) e
+pub tag-facts : (t : Tag) → TagFacts t
+unfolding tagAmong same
+tag-facts Tag.Lin = record { ten = lit≤ tt; three = refl; back = refl }
+tag-facts Tag.Sta = record { ten = lit≤ tt; three = refl; back = refl }
+tag-facts Tag.Run = record { ten = lit≤ tt; three = refl; back = refl }
+tag-facts Tag.Drr = record { ten = lit≤ tt; three = refl; back = refl }
+tag-facts Tag.Drs = record { ten = lit≤ tt; three = refl; back = refl }
+tag-facts Tag.End = record { ten = lit≤ tt; three = refl; back = refl }
 
 -- any other letters are refused with 1
 other-tag : (ts : List Tag) (w : List ℕ) (k : ℕ) → tagAmong ts w ≡ Refused k → k ≡ 1
@@ -101,14 +106,6 @@ module _ (t : Tag) (l : List ℕ) where
   unfolding recordIn
   record-shaped e = ap (λ (b : Bool). cond b (numbersLine t (fieldCount t) (drop 3 l)) (refusedLine 1)) e
 
-pub count-ten : (t : Tag) → fieldCount t ≤ 10
-count-ten Lin = lit≤ tt
-count-ten Sta = lit≤ tt
-count-ten Run = lit≤ tt
-count-ten Drr = lit≤ tt
-count-ten Drs = lit≤ tt
-count-ten End = lit≤ tt
-
 -- a line of another length is refused with 1
 pub line-length : (l : List ℕ) → (length l ≡ 84 → ⊥) → lineIn l ≡ refusedLine 1
 unfolding lineIn
@@ -117,7 +114,7 @@ line-length l h = go (tagAmong tags (take 3 l)) refl
     go : (k : Kind) → tagAmong tags (take 3 l) ≡ k → lineOfKind k l ≡ refusedLine 1
     go (Record t) e =
         let m = 3 + 8 * fieldCount t in
-        let c = count-ten t in
+        let c = tag-facts t .ten in
         record-bad t l
         (same-lengths (drop m l) (lineEnd m) (λ q. h (omega (arith, length-drop m l, length-end m (omega arith)))))
     go (Refused k) e = ap refusedLine (other-tag tags (take 3 l) k e)

@@ -11,10 +11,9 @@ use Rattle.numbers.specs.Whole.{putAt}
 use Rattle.numbers.proofs.Tests.{by-test, is-true, not-both}
 use Rattle.columns.specs.declared.reader.Field.{Field}
 use Rattle.columns.specs.declared.reader.Field.the-variants.{Number, Bad}
-use Rattle.columns.specs.declared.reader.Tag.{Tag}
-use Rattle.columns.specs.declared.reader.Tag.the-variants.{Lin, Sta, Run, Drr, Drs, End}
-use Rattle.columns.specs.declared.reader.Kind.{Kind}
-use Rattle.columns.specs.declared.reader.Kind.the-variants.{Record, Refused}
+use Rattle.records.specs.declared.Tag.{Tag}
+use Rattle.records.specs.declared.Kind.{Kind}
+use Rattle.records.specs.declared.Kind.the-variants.{Record, Refused}
 use Rattle.columns.specs.declared.reader.Line.{Line}
 use Rattle.columns.specs.Decimals.{fitsIn, pad, same, fieldOf}
 use Rattle.columns.specs.Lines.{lineEnd, lineWith, widthOf, fields, allFit, lineFits, tagLine}
@@ -22,7 +21,7 @@ use Rattle.columns.specs.Records.{letters, fieldCount, tags, tagAmong, i
 use Rattle.columns.proofs.Compare.{both, same-true, same-equal}
 use Rattle.columns.proofs.Fields.{length-pad, read-back, written-field, number-fits}
 use Rattle.columns.proofs.Lines.{columns-narrow, length-end, fits-line, fits-room, line-is}
-use Rattle.columns.proofs.Records.{count-ten, record-shaped, line-taken}
+use Rattle.columns.proofs.Records.{tag-facts, record-shaped, line-taken}
 
 -- l is the record with tag t and numbers zs, written
 pub record Written (t : Tag) (zs : List ℤ) (l : List ℕ) : Type 0 where
@@ -35,24 +34,7 @@ unfolding widthOf
 width-eight zero = refl
 width-eight (suc after) = refl
 
-length-letters : (t : Tag) → length (letters t) ≡ 3
-length-letters Lin = refl
-length-letters Sta = refl
-length-letters Run = refl
-length-letters Drr = refl
-length-letters Drs = refl
-length-letters End = refl
-
 -- ---- reading undoes writing
-
-tag-back : (t : Tag) → tagAmong tags (letters t) ≡ Record t
-unfolding tagAmong same
-tag-back Lin = refl
-tag-back Sta = refl
-tag-back Run = refl
-tag-back Drr = refl
-tag-back Drs = refl
-tag-back End = refl
 
 fields-back : (zs : List ℤ) (r : List ℕ) → allFit false zs ≡ true → (allNumbers (length zs) (fields false zs ++ r) ≡ true) × (numbersIn (length zs) (fields false zs ++ r) ≡ zs)
 unfolding fields allFit allNumbers numbersIn
@@ -73,12 +55,12 @@ fields-back (z ∷ zs) r h =
 -- the numbers of a record fit its line, and where its fields end
 module _ (t : Tag) (zs : List ℤ) (n : length zs ≡ fieldCount t) (h : allFit false zs ≡ true) where
   pub record-fits : lineFits (length (letters t)) zs false ≡ true
-  record-fits = fits-room (length (letters t)) zs false (omega (arith, n, count-ten t, length-letters t, columns-narrow (length zs))) ∙ h
+  record-fits = fits-room (length (letters t)) zs false (omega (arith, n, tag-facts t, columns-narrow (length zs))) ∙ h
 
   record-used : length (letters t ++ fields false zs) ≡ 3 + 8 * fieldCount t
   record-used =
       fits-line (letters t) zs false record-fits .used
-      ∙ omega (arith, n, length-letters t, columns-narrow (length zs))
+      ∙ omega (arith, n, tag-facts t, columns-narrow (length zs))
 
 pub line-back : (t : Tag) (zs : List ℤ) (l : List ℕ) → Written t zs l → lineIn l ≡ recordLine t zs
 unfolding lineIn lineWith
@@ -89,11 +71,11 @@ line-back t zs l w =
     let r : List ℕ = fields false zs ++ lineEnd (length s) in
     let i : l ≡ s ++ lineEnd (length s) = w .is ∙ line-is (letters t) zs false (record-fits t zs (w .count) (w .each)) in
     let a : l ≡ letters t ++ r = i ∙ append-assoc (letters t) (fields false zs) (lineEnd (length s)) in
-    let front : take 3 l ≡ letters t = ap (take 3) a ∙ take-at (letters t) r 3 (length-letters t) in
-    let rest : drop 3 l ≡ r = ap (drop 3) a ∙ drop-at (letters t) r 3 (length-letters t) in
+    let front : take 3 l ≡ letters t = ap (take 3) a ∙ take-at (letters t) r 3 (tag-facts t .three) in
+    let rest : drop 3 l ≡ r = ap (drop 3) a ∙ drop-at (letters t) r 3 (tag-facts t .three) in
     let end : drop m l ≡ lineEnd m = ap (drop m) i ∙ drop-at s (lineEnd (length s)) m q ∙ ap lineEnd q in
     let f = fields-back zs (lineEnd (length s)) (w .each) in
-    ap (λ (k : Kind). lineOfKind k l) (ap (tagAmong tags) front ∙ tag-back t)
+    ap (λ (k : Kind). lineOfKind k l) (ap (tagAmong tags) front ∙ tag-facts t .back)
     ∙ record-shaped t l (same-equal (drop m l) (lineEnd m) end)
     ∙ (λ j. numbersLine t (sym (w .count) j) (rest j))
     ∙ line-taken t (length zs) r (f .0)
@@ -149,7 +131,7 @@ line-parts t l front end h =
     let m : ℕ = 3 + 8 * n in
     let zs : List ℤ = numbersIn n (drop 3 l) in
     let k : length zs ≡ n = length-numbers n (drop 3 l) in
-    let c = count-ten t in
+    let c = tag-facts t .ten in
     let size : length l ≡ 84 = omega (arith, ap length end, length-drop m l, length-end m (omega arith)) in
     let f = fields-written n (drop 3 l) (omega (arith, length-drop 3 l)) h in
     let s : List ℕ = letters t ++ fields false zs in

@@ -10,17 +10,17 @@ use Rattle.numbers.specs.Tables.{firstOf}
 use Rattle.numbers.specs.Whole.{putAt}
 use Rattle.columns.specs.declared.reader.Field.{Field}
 use Rattle.columns.specs.declared.reader.Field.the-variants.{Number, Bad}
-use Rattle.columns.specs.declared.reader.Tag.{Tag}
-use Rattle.columns.specs.declared.reader.Tag.the-variants.{Lin, Sta, Run, Drr, Drs, End}
-use Rattle.columns.specs.declared.reader.Kind.{Kind}
-use Rattle.columns.specs.declared.reader.Kind.the-variants.{Record, Refused}
+use Rattle.records.specs.declared.Tag.{Tag}
+use Rattle.records.specs.declared.Tag.the-variants.{Lin, Sta, Run, Drr, Drs, End}
+use Rattle.records.specs.declared.Kind.{Kind}
+use Rattle.records.specs.declared.Kind.the-variants.{Record, Refused}
 use Rattle.columns.specs.declared.reader.Line.{Line}
 use Rattle.columns.specs.Decimals.{same, fieldOf}
 use Rattle.columns.specs.Lines.{lineEnd}
 
 -- ---- tags
 
--- "LIN", "STA", "RUN", "DRR", "DRS", "END"
+-- the name of the tag in capitals, as "LIN" for Lin
 abbrev pub letters : Tag → List ℕ
 letters Lin = 76 ∷ 73 ∷ 78 ∷ []
 letters Sta = 83 ∷ 84 ∷ 65 ∷ []

@@ -1,33 +1,20 @@
 // Lines of the text book, read.
 ghost use mathlib.Core.Path.{_≡_};
+ghost use mathlib.Core.Bool.{cond};
 ghost use Prim.Native.Nat.{_+_, _*_, _≤_};
 ghost use lib.ListN.{length, drop};
 ghost use Rattle.columns.specs.Decimals.{same, fieldOf};
-ghost use Rattle.columns.specs.Parser.{leadingBlanks, runOf, naturalOf, negated};
+ghost use Rattle.columns.specs.code.Parser.{leadingBlanks, runOf, naturalOf, negated};
 ghost use Rattle.columns.specs.Lines.{lineEnd, heading};
 ghost use Rattle.columns.specs.Records.{tags, tagAmong, fieldCount, numbersLine, refusedLine, recordIn, Parses};
 use super::bytes::same_bytes;
+use records::Kind;
+use records::Tag;
 
 // A field of a line.
 pub enum Field {
     Number(i64),
     Bad,
-}
-
-// The tags of the text book's records.
-pub enum Tag {
-    Lin,
-    Sta,
-    Run,
-    Drr,
-    Drs,
-    End,
-}
-
-// What a line is: a record with this tag, or refused with this number of document 01.
-pub enum Kind {
-    Record(Tag),
-    Refused(u8),
 }
 
 // A line, with its numbers; the places past them, and all places of a refused line, are 0.
@@ -161,29 +148,29 @@ fn field_count(tag: Tag) -> usize
     }
 }
 
-// The tag with these letters.
+// The tag where w is its letters, and otherwise what w is without it.
+fn tag_or(w: &[u8], letters: &[u8; 3], tag: Tag, otherwise: Kind) -> Kind
+    ensures { λ r. ⌜ r ≡ cond (same (now (w .entry)) (now (letters .entry))) (Kind.Record tag) otherwise ⌝ }
+{
+    if same_bytes(w, letters) {
+        Kind::Record(tag)
+    } else {
+        otherwise
+    }
+}
+
+// The tag with these letters: the last of `tags` is tried first, so that the first that fits is left.
 fn find_tag(w: &[u8]) -> Kind
     ensures { λ r. ⌜ r ≡ tagAmong tags (now (w .entry)) ⌝ }
 {
-    if same_bytes(w, b"LIN") {
-        return Kind::Record(Tag::Lin);
-    }
-    if same_bytes(w, b"STA") {
-        return Kind::Record(Tag::Sta);
-    }
-    if same_bytes(w, b"RUN") {
-        return Kind::Record(Tag::Run);
-    }
-    if same_bytes(w, b"DRR") {
-        return Kind::Record(Tag::Drr);
-    }
-    if same_bytes(w, b"DRS") {
-        return Kind::Record(Tag::Drs);
-    }
-    if same_bytes(w, b"END") {
-        return Kind::Record(Tag::End);
-    }
-    Kind::Refused(1)
+    let mut kind = Kind::Refused(1);
+    kind = tag_or(w, b"END", Tag::End, kind);
+    kind = tag_or(w, b"DRS", Tag::Drs, kind);
+    kind = tag_or(w, b"DRR", Tag::Drr, kind);
+    kind = tag_or(w, b"RUN", Tag::Run, kind);
+    kind = tag_or(w, b"STA", Tag::Sta, kind);
+    kind = tag_or(w, b"LIN", Tag::Lin, kind);
+    kind
 }
 
 // Whether a line ends in blanks up to column 83 and a line feed from index `from` on.

@@ -3,7 +3,7 @@ use mathlib.Core.Path.{_≡_}
 use Prim.Native.Nat.{_+_, _≤_, _-_}
 use native.Mathlib.Omega.{arith}
 use lib.ListN.{length, drop}
-use Rattle.columns.specs.Parser.{leadingBlanks}
+use Rattle.columns.specs.code.Parser.{leadingBlanks}
 use Rattle.columns.proofs.Runs.{blanks-more, blanks-stop, blanks-end}
 use Rattle.columns.proofs.reader.count_blanks.Statement.{statement}
 use Rattle.columns.proofs.reader.count_blanks.Tie as tie

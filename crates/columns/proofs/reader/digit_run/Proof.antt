@@ -8,7 +8,7 @@ use lib.ListN.{length, drop}
 use Rattle.numbers.proofs.Machine.{abs-fits, cast-nat}
 use Rattle.columns.specs.declared.reader.Field.the-variants.{Number}
 use Rattle.columns.specs.Decimals.{valueOf}
-use Rattle.columns.specs.Parser.{allDigits}
+use Rattle.columns.specs.code.Parser.{allDigits}
 use Rattle.columns.proofs.Runs.{all-next, all-low, all-high, value-next, run-bad, run-number}
 use Rattle.columns.proofs.reader.digit_run.Statement.{statement}
 use Rattle.columns.proofs.reader.digit_run.Tie as tie

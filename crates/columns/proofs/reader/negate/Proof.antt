@@ -7,7 +7,7 @@ use mir.Syntax.{w64}
 use mir.Val.{SFits}
 use Rattle.numbers.proofs.Machine.{stored, stored-id, stored-as, literal-as, sub-as, fits-as, branch-lt, branch-ge}
 use Rattle.columns.specs.declared.reader.Field.the-variants.{Number}
-use Rattle.columns.specs.Parser.{negated}
+use Rattle.columns.specs.code.Parser.{negated}
 use Rattle.columns.proofs.Runs.{minus-above, minus-none, minus-fits}
 use Rattle.columns.proofs.reader.negate.Statement.{statement}
 use Rattle.columns.proofs.reader.negate.Tie as tie

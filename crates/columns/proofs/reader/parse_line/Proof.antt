@@ -1,7 +1,7 @@
 -- `parse_line` meets its contract.
 use mathlib.Core.Path.{sym, ap, _∙_}
 use borrow.Author.Needs.{needs}
-use Rattle.columns.specs.declared.reader.Kind.{Kind}
+use Rattle.records.specs.declared.Kind.{Kind}
 use Rattle.columns.specs.Records.{lineOfKind, lineIn}
 use Rattle.columns.proofs.Records.{line-length, parses}
 use Rattle.columns.proofs.reader.parse_line.Statement.{statement}

@@ -7,7 +7,7 @@ use borrow.Author.Needs.{needs}
 use lib.ListN.{length, drop, getD, drop-of-length-le}
 use Rattle.numbers.proofs.Arrays.{drop-next}
 use Rattle.columns.specs.Decimals.{fieldOf}
-use Rattle.columns.specs.Parser.{naturalOf, negated}
+use Rattle.columns.specs.code.Parser.{naturalOf, negated}
 use Rattle.columns.proofs.Lists.{part-rest}
 use Rattle.columns.proofs.Parser.{AfterBlanks, after-blanks, field-empty, field-minus, field-other}
 use Rattle.columns.proofs.reader.read_field.Statement.{statement}

@@ -13,8 +13,8 @@ use Rattle.numbers.specs.Whole.{putAt}
 use Rattle.numbers.proofs.Machine.{stored-id}
 use Rattle.numbers.proofs.Arrays.{put-cons, put-all}
 use Rattle.columns.specs.declared.reader.Field.the-variants.{Number}
-use Rattle.columns.specs.declared.reader.Tag.{Tag}
-use Rattle.columns.specs.declared.reader.Kind.the-variants.{Record}
+use Rattle.records.specs.declared.Tag.{Tag}
+use Rattle.records.specs.declared.Kind.the-variants.{Record}
 use Rattle.columns.specs.declared.reader.Line.{Line}
 use Rattle.columns.specs.Decimals.{fieldOf}
 use Rattle.columns.specs.Records.{zeros, allNumbers, numbersIn}

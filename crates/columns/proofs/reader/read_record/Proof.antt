@@ -7,7 +7,7 @@ use lib.ListN.{drop}
 use Rattle.columns.specs.Decimals.{same}
 use Rattle.columns.specs.Lines.{lineEnd}
 use Rattle.columns.specs.Records.{fieldCount, numbersLine}
-use Rattle.columns.proofs.Records.{count-ten, record-bad, record-shaped}
+use Rattle.columns.proofs.Records.{tag-facts, record-bad, record-shaped}
 use Rattle.columns.proofs.reader.read_record.Statement.{statement}
 use Rattle.columns.proofs.reader.read_record.Tie as tie
 
@@ -24,18 +24,18 @@ field-count-requires : tie.Need-field-count-requires
 field-count-requires c κs = search needs
 
 mul-ends-from : tie.Need-mul-ends-from
-mul-ends-from c = omega (arith, c .field-count .ensures, count-ten (c .before .before .args .tag))
+mul-ends-from c = omega (arith, c .field-count .ensures, tag-facts (c .before .before .args .tag) .ten)
 
 add-ends-from : tie.Need-add-ends-from
-add-ends-from c = omega (arith, c .field-count .ensures, count-ten (c .before .before .args .tag))
+add-ends-from c = omega (arith, c .field-count .ensures, tag-facts (c .before .before .args .tag) .ten)
 
 ends-from-requires : tie.Need-ends-from-requires
-ends-from-requires c κs = omega (arith, c .field-count .ensures, count-ten (c .before .before .args .tag), c .before .before .pre)
+ends-from-requires c κs = omega (arith, c .field-count .ensures, tag-facts (c .before .before .args .tag) .ten, c .before .before .pre)
 
 read-numbers-requires : tie.Need-read-numbers-requires
 read-numbers-requires c κs =
     let k = c .before .before in
-    omega (arith, k .field-count .ensures, count-ten (k .before .before .args .tag), k .before .before .pre)
+    omega (arith, k .field-count .ensures, tag-facts (k .before .before .args .tag) .ten, k .before .before .pre)
 
 refused-requires : tie.Need-refused-requires
 refused-requires c κs = search needs

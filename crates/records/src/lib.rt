@@ -1,0 +1,22 @@
+// The records of a levelling book: one for each call, named by its tag in the text book (document 01, 'The text book and the report').
+
+pub enum Tag {
+    // open the line
+    Lin,
+    // a station
+    Sta,
+    // end the present run
+    Run,
+    // drop the present run
+    Drr,
+    // drop the present section
+    Drs,
+    // close the line
+    End,
+}
+
+// What an entry of a book is: a record with this tag, or none and refused with this number of document 01.
+pub enum Kind {
+    Record(Tag),
+    Refused(u8),
+}
