@@ -6,23 +6,22 @@ use Rattle.numbers.proofs.Parts.{ints, parts-abs, parts-times}
 use Rattle.numbers.proofs.Chain.{plain, literal, add, sub, mul}
 use Rattle.roots.proofs.RoundLaws.{round-size}
 use Rattle.adjust.specs.declared.Section.{Section}
-use Rattle.adjust.specs.declared.heights.Known.{Known}
+use Rattle.adjust.specs.declared.Totals.{Totals}
 use Rattle.adjust.specs.Sizes.{highest, mostD, mostT, mostSumQ, mostL, mostW, mostPrinted}
-use Rattle.adjust.specs.Line.{exactTop, printedHeight, accidental}
-use Rattle.adjust.specs.Frames.{frame}
-use Rattle.adjust.specs.Bounds.{Framed, LegBounds}
+use Rattle.adjust.specs.Line.{frame, exactTop, printedHeight, accidental}
+use Rattle.adjust.specs.code.Bounds.{Framed, LegBounds}
 
-module _ (f : Known) (q s : ℤ) (h : Framed f) (hq : natAbs q ≤ mostSumQ) (hs : natAbs s ≤ mostL) where
-  exact-size : natAbs (exactTop (frame f) q s) ≤ (4 * highest + mostSumQ + mostW) * mostL
+module _ (start : ℤ) (t : Totals) (q s : ℤ) (h : Framed start t) (hq : natAbs q ≤ mostSumQ) (hs : natAbs s ≤ mostL) where
+  exact-size : natAbs (exactTop (frame start t) q s) ≤ (4 * highest + mostSumQ + mostW) * mostL
   exact-size =
-      let total = plain (f .total) (h .total) in
+      let length = plain (t .distance) (h .distance) in
       mul (literal (pos 1))
-      (sub (add (mul (mul (literal (pos 4)) (plain (f .start) (h .start))) total) (mul (plain q hq) total)) (mul (plain (f .closing) (h .closing)) (plain s hs))) .size
+      (sub (add (mul (mul (literal (pos 4)) (plain start (h .height))) length) (mul (plain q hq) length)) (mul (plain (t .closure) (h .closure)) (plain s hs))) .size
 
-  pub printed-size : natAbs (printedHeight (frame f) q s) ≤ mostPrinted
+  pub printed-size : natAbs (printedHeight (frame start t) q s) ≤ mostPrinted
   printed-size =
-      let long : 0 < natAbs (pos 4 *ℤ f .total) = omega (ints, h .long, parts-times 4 (f .total), parts-abs (pos 4 *ℤ f .total)) in
-      omega (arith, round-size (exactTop (frame f) q s) (natAbs (pos 4 *ℤ f .total)) long, exact-size)
+      let long : 0 < natAbs (pos 4 *ℤ t .distance) = omega (ints, h .long, parts-times 4 (t .distance), parts-abs (pos 4 *ℤ t .distance)) in
+      omega (arith, round-size (exactTop (frame start t) q s) (natAbs (pos 4 *ℤ t .distance)) long, exact-size)
 
 -- t of a section in the wider range
 pub accidental-size : (x : Section) → natAbs (x .discrepancy) ≤ mostD → LegBounds x → natAbs (accidental x) ≤ mostT

@@ -1,6 +1,7 @@
--- One to 64 sections in the wider range between known heights: the sizes of ΣQ, L and W, and that a line is at least 1 long.
-use mathlib.Core.Path.{_≡_, refl}
-use mathlib.Core.Bool.{true, false, not, _&&_}
+-- One to 64 sections in the wider range between known heights: the sizes of ΣQ, L and W, that a line is at least 1 long,
+-- and what is answered of it.
+use mathlib.Core.Path.{_≡_, refl, ap}
+use mathlib.Core.Bool.{Bool, true, false, not, cond, _&&_}
 use mathlib.Core.List.{List, [], _∷_}
 use Prim.Native.Nat.{ℕ, _*_, _≤_}
 use native.Mathlib.Omega.{arith}
@@ -13,14 +14,16 @@ use Rattle.numbers.proofs.Parts.{ints, parts-add, parts-abs, test-le}
 use Rattle.numbers.proofs.Sizes.{abs-add}
 use Rattle.numbers.proofs.Tables.{failed}
 use Rattle.numbers.proofs.Chain.{plain, literal, add, sub, mul}
+use Rattle.adjust.specs.declared.Opening.{Opening}
 use Rattle.adjust.specs.declared.Section.{Section}
 use Rattle.adjust.specs.declared.Sections.{Sections}
+use Rattle.adjust.specs.declared.LineTotals.the-variants.{Totalled, NotTotalled}
 use Rattle.adjust.specs.Sizes.{highest, mostQ, mostR, mostSumQ}
 use Rattle.adjust.specs.Sections.{sectionsOf, anyOutside, misfit, heightInRange}
-use Rattle.adjust.specs.Line.{lineHeight, lineLength, closure}
-use Rattle.adjust.specs.Frames.{figuresFit}
+use Rattle.adjust.specs.Line.{lineHeight, lineLength, totals, closing}
+use Rattle.adjust.specs.Frames.{figuresFit, lineTotals, adjustedOf, notAdjusted, lineFigures}
 use Rattle.adjust.specs.Call.{adjustTests, adjustRefusal}
-use Rattle.adjust.specs.Bounds.{Fitted, Between, Framed}
+use Rattle.adjust.specs.code.Bounds.{Fitted, Between, Framed}
 use Rattle.adjust.proofs.Lists.{Fit, fit-head, fit-tail, fitted-legs, strict-legs, from-length}
 
 pub height-size : (xs : List Section) → Fit xs → natAbs (lineHeight xs) ≤ mostQ * length xs
@@ -43,14 +46,14 @@ in-range h e =
     omega (ints, parts-abs h)
 
 module _ {start end : ℤ} {s : Sections} (b : Between start end s) where
-  pub framed : Framed (record { start = start; closing = closure start end (sectionsOf s); total = lineLength (sectionsOf s) })
+  pub framed : Framed start (totals start end (sectionsOf s))
   framed =
       let n = from-length s 0 (s .count) in
       let h : natAbs (lineHeight (sectionsOf s)) ≤ mostSumQ = omega (arith, n, height-size (sectionsOf s) (b .fits .legs), b .fits .few) in
       record {
-        start = b .start-size;
-        closing = sub (add (mul (literal (pos 4)) (plain start (b .start-size))) (plain (lineHeight (sectionsOf s)) h)) (mul (literal (pos 4)) (plain end (b .end-size))) .size;
-        total = omega (arith, n, length-size (sectionsOf s) (b .fits .legs), b .fits .few);
+        height = b .start-size;
+        closure = sub (add (mul (literal (pos 4)) (plain start (b .start-size))) (plain (lineHeight (sectionsOf s)) h)) (mul (literal (pos 4)) (plain end (b .end-size))) .size;
+        distance = omega (arith, n, length-size (sectionsOf s) (b .fits .legs), b .fits .few);
         long = omega (ints, n, long (sectionsOf s) (b .fits .legs), b .some);
       }
 
@@ -76,6 +79,16 @@ fitting start end s e =
       },
       record { few = few; sections = inside },
     )
+
+-- ---- what is answered of figures that fit, and of those that do not
+
+pub totals-by : (start end : ℤ) (ss : List Section) {t : Bool} → figuresFit start end ss ≡ t → lineTotals start end ss ≡ cond t (Totalled (totals start end ss)) NotTotalled
+unfolding lineTotals
+totals-by start end ss e = ap (λ (t : Bool). cond t (Totalled (totals start end ss)) NotTotalled) e
+
+pub figures-by : (o : Opening) (end : ℤ) (ss : List Section) {t : Bool} → figuresFit (o .start .height) end ss ≡ t → lineFigures o end ss ≡ cond t (adjustedOf (closing o end ss)) notAdjusted
+unfolding lineFigures
+figures-by o end ss e = ap (λ (t : Bool). cond t (adjustedOf (closing o end ss)) notAdjusted) e
 
 -- ---- an adjustment that is not refused
 

@@ -1,8 +1,9 @@
 pub mod Sizes
 pub mod Sections
+pub mod Terms
 pub mod Line
 pub mod Claims
 pub mod Frames
-pub mod Bounds
 pub mod Call
 pub mod Legs
+pub mod code

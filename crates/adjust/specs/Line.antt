@@ -1,19 +1,20 @@
 -- A line between two known heights: L, W, the exact and the printed heights, the corrections, and the accidental error (document 01, 'Closure, corrections, heights').
-use mathlib.Core.Bool.{cond}
+use mathlib.Core.Bool.{cond, not, _||_}
 use mathlib.Core.List.{List, [], _∷_, map}
-use Prim.Native.Nat.{ℕ, _*_}
+use Prim.Native.Nat.{ℕ}
 use lib.ListN.{length}
 use lib.Dec.{ltb}
 use lib.IntN.{ℤ, pos, natAbs, _+ℤ_, _-ℤ_, _*ℤ_}
 use lib.Signed.{leZ}
 use Rattle.numbers.specs.Whole.{sum}
 use Rattle.roots.specs.Round.{roundEven}
-use Rattle.station.specs.declared.Order.{Order}
-use Rattle.station.specs.declared.Order.the-variants.{Third, Fourth}
-use Rattle.adjust.specs.declared.Benchmark.{Benchmark}
+use Rattle.adjust.specs.declared.Opening.{Opening}
 use Rattle.adjust.specs.declared.Section.{Section}
 use Rattle.adjust.specs.declared.Point.{Point}
+use Rattle.adjust.specs.declared.Totals.{Totals}
 use Rattle.adjust.specs.declared.Summary.{Summary}
+use Rattle.adjust.specs.declared.terms.Terms.{Terms}
+use Rattle.adjust.specs.Terms.{termsOf}
 
 -- L, half dm
 abbrev pub lineLength : List Section → ℤ
@@ -26,6 +27,9 @@ lineHeight ss = sum (map (λ (x : Section). x .height) ss)
 -- W, quarter mm, of the sections between the known heights `start` and `end`
 abbrev pub closure : ℤ → ℤ → List Section → ℤ
 closure start end ss = pos 4 *ℤ start +ℤ lineHeight ss -ℤ pos 4 *ℤ end
+
+abbrev pub totals : ℤ → ℤ → List Section → Totals
+totals start end ss = record { closure = closure start end ss; distance = lineLength ss }
 
 -- ---- heights
 
@@ -42,8 +46,12 @@ pub record Frame : Type 0 where
   -- L, half dm
   pub total : ℤ
 
+-- in the base's units: quarter mm, printed in whole mm
+abbrev pub frame : ℤ → Totals → Frame
+frame start t = record { units = pos 4; prints = pos 1; start = start; closing = t .closure; total = t .distance }
+
 abbrev pub frameOf : ℤ → ℤ → List Section → Frame
-frameOf start end ss = record { units = pos 4; prints = pos 1; start = start; closing = closure start end ss; total = lineLength ss }
+frameOf start end ss = frame start (totals start end ss)
 
 -- the exact height at running sums q (of Q) and s (of R) is exactTop / (units × total) print units
 abbrev pub exactTop : Frame → ℤ → ℤ → ℤ
@@ -78,15 +86,13 @@ points f number ss = record { number = number; distance = pos 0; correction = po
 abbrev pub accidental : Section → ℤ
 accidental x = roundEven (pos 500000 *ℤ (x .discrepancy *ℤ x .discrepancy)) (natAbs (x .distance))
 
--- T
-abbrev pub accidentalSum : Order → List Section → ℤ
-accidentalSum Third ss = sum (map accidental ss)
-accidentalSum Fourth ss = pos 0
+-- T: 0 where sections are levelled one way
+abbrev pub accidentalSum : Terms → List Section → ℤ
+accidentalSum terms ss = cond (terms .double) (sum (map accidental ss)) (pos 0)
 
--- 0 below 20 sections and at fourth order; 1 for a T within its limit, 2 above
-abbrev pub verdict : Order → ℕ → ℤ → ℕ
-verdict Third n t = cond (ltb n 20) 0 (cond (leZ t (pos (3600 * n))) 1 2)
-verdict Fourth n t = 0
+-- 0 below 20 sections and where they are levelled one way; 1 for a T within its limit, 2 above
+abbrev pub verdict : Terms → ℕ → ℤ → ℕ
+verdict terms n t = cond (not (terms .double) || ltb n 20) 0 (cond (leZ t (terms .accidental *ℤ pos n)) 1 2)
 
 -- ---- what closing a line gives
 
@@ -94,12 +100,13 @@ pub record Closing : Type 0 where
   pub summary : Summary
   pub points : List Point
 
-abbrev pub closing : Order → Benchmark → ℤ → List Section → Closing
-closing order start end ss =
-    let f : Frame = frameOf (start .height) end ss in
-    let t : ℤ = accidentalSum order ss in
+abbrev pub closing : Opening → ℤ → List Section → Closing
+closing o end ss =
+    let f : Frame = frameOf (o .start .height) end ss in
+    let terms : Terms = termsOf (o .order) in
+    let t : ℤ = accidentalSum terms ss in
     record {
       -- W as printed, in the corrections' unit
-      summary = record { closure = f .prints *ℤ f .closing; distance = f .total; count = length ss; accidental = t; verdict = verdict order (length ss) t };
-      points = points f (start .number) ss;
+      summary = record { closure = f .prints *ℤ f .closing; distance = f .total; count = length ss; accidental = t; verdict = verdict terms (length ss) t };
+      points = points f (o .start .number) ss;
     }

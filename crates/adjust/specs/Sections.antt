@@ -73,9 +73,5 @@ lent count hs ds es = record { count = count; numbers = []; heights = hs; distan
 abbrev pub misfit : List Section → Bool
 misfit ss = not (leb (length ss) 64) || anyOutside false ss
 
--- the same of lent lists; so too where one of them has fewer places
-abbrev pub misfitIn : ℕ → List ℤ → List ℤ → List ℤ → Bool
-misfitIn count hs ds es = not (leb count (length hs)) || not (leb count (length ds)) || not (leb count (length es)) || misfit (sectionsOf (lent count hs ds es))
-
 abbrev pub heightInRange : ℤ → Bool
 heightInRange h = between (negℤ (pos 999999)) h (pos highest)

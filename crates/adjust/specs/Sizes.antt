@@ -18,6 +18,10 @@ mostD = 100000
 abbrev pub mostT : ℕ
 mostT = 500000 * (mostD * mostD) + 1
 
+-- what an order allows of T for each section: none allows as much
+abbrev pub mostAllowed : ℕ
+mostAllowed = 1000000
+
 -- of a line: T, ΣQ, L, W and a printed height
 abbrev pub mostSumT : ℕ
 mostSumT = mostT * 64

@@ -4,15 +4,15 @@ ghost use mathlib.Core.List.{map};
 ghost use Prim.Native.Nat.{_≤_};
 ghost use lib.IntN.{natAbs, _+ℤ_};
 ghost use Rattle.numbers.specs.Whole.{sum};
-ghost use Rattle.adjust.specs.Sizes.{mostD, mostSumT};
+ghost use Rattle.adjust.specs.Sizes.{mostD, mostSumT, mostAllowed};
 ghost use Rattle.adjust.specs.Sections.{sectionsOf};
 ghost use Rattle.adjust.specs.Line.{accidental, accidentalSum, verdict};
-ghost use Rattle.adjust.specs.Bounds.{Fitted, LegBounds};
+ghost use Rattle.adjust.specs.code.Bounds.{Fitted, LegBounds};
 use super::Section;
 use super::Sections;
 use super::table::section_at;
+use super::terms::Terms;
 use roots::rounding::round_half_even;
-use station::Order;
 
 // T so far.
 struct Total {
@@ -45,32 +45,24 @@ fn squares_of(s: Sections) -> i64
     t.squares
 }
 
-// T: 0 at fourth order.
-pub(crate) fn accidental_sum(order: Order, s: Sections) -> i64
+// T: 0 where sections are levelled one way.
+pub(crate) fn accidental_sum(terms: Terms, s: Sections) -> i64
     requires { ⌜ Fitted s ⌝ }
-    ensures { λ r. ⌜ r ≡ accidentalSum order (sectionsOf s) ⌝ }
+    ensures { λ r. ⌜ r ≡ accidentalSum terms (sectionsOf s) ⌝ }
 {
-    match order {
-        Order::Third => squares_of(s),
-        Order::Fourth => 0,
-    }
+    if terms.double { squares_of(s) } else { 0 }
 }
 
 // 0 for no verdict, 1 for a T within its limit, 2 for one above it.
-pub(crate) fn verdict_of(order: Order, count: usize, t: i64) -> u8
-    requires { ⌜ count ≤ 64 ⌝ }
-    ensures { λ r. ⌜ r ≡ verdict order count t ⌝ }
+pub(crate) fn verdict_of(terms: Terms, count: usize, t: i64) -> u8
+    requires { ⌜ (count ≤ 64) × (natAbs (terms .accidental) ≤ mostAllowed) ⌝ }
+    ensures { λ r. ⌜ r ≡ verdict terms count t ⌝ }
 {
-    match order {
-        Order::Third => {
-            if count < 20 {
-                0
-            } else if t <= (3600 * count) as i64 {
-                1
-            } else {
-                2
-            }
-        }
-        Order::Fourth => 0,
+    if !terms.double | (count < 20) {
+        0
+    } else if t <= terms.accidental * count as i64 {
+        1
+    } else {
+        2
     }
 }

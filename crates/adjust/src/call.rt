@@ -11,8 +11,8 @@ use super::Answer;
 use super::Point;
 use super::Sections;
 use super::height_in_range;
-use super::heights::known_of;
 use super::heights::points_of;
+use super::sums::totals_between;
 use super::table::any_outside;
 
 // The refusal of the call for a height list of so many places: 11, 13, 12 or 5, or 0.
@@ -61,7 +61,7 @@ pub fn adjust(start: i64, end: i64, s: Sections, heights: &mut [i64]) -> Answer
     if code != 0 {
         return Answer::Refused(code);
     }
-    let points = points_of(known_of(start, end, s), 0, s);
+    let points = points_of(start, totals_between(start, end, s), 0, s);
     put_heights(points, s.count, heights);
     Answer::Taken
 }

@@ -1,9 +1,11 @@
 // Closing figures over the sections of a line, and the adjustment call.
 ghost use mathlib.Core.Path.{_≡_};
+ghost use mathlib.Core.List.{[]};
+ghost use Rattle.numbers.specs.Whole.{filled};
 ghost use Rattle.adjust.specs.Sections.{sectionsOf, heightInRange};
-ghost use Rattle.adjust.specs.Frames.{figuresFit, totalsIfFit, adjustedOf, nothing, adjustedIfFit};
+ghost use Rattle.adjust.specs.Frames.{noPoint, figuresFit, lineTotals, adjustedOf, lineFigures};
 ghost use Rattle.adjust.specs.Line.{closing};
-ghost use Rattle.adjust.specs.Bounds.{Between, Fitted};
+ghost use Rattle.adjust.specs.code.Bounds.{Between, Fitted};
 
 mod accidental;
 pub mod call;
@@ -11,12 +13,21 @@ pub mod entry;
 mod heights;
 mod sums;
 pub mod table;
+pub mod terms;
 
+use station::Instrument;
 use station::Order;
 
 pub struct Benchmark {
     pub number: i64,
     pub height: i64,
+}
+
+// What a line is opened with.
+pub struct Opening {
+    pub order: Order,
+    pub instrument: Instrument,
+    pub start: Benchmark,
 }
 
 // A finished section: the benchmark that it ends on, its height difference Q in quarter mm, its distance R in half dm, and the discrepancy D
@@ -54,9 +65,15 @@ pub struct Summary {
     pub verdict: u8,
 }
 
-// What closing a line gives: the points are the start and one for each section; the places behind them hold zeros.
-pub struct Adjusted {
-    pub summary: Summary,
+// What is answered of a line: its summary, or that it is not adjusted, as where its figures do not fit.
+pub enum LineSummary {
+    Adjusted(Summary),
+    NotAdjusted,
+}
+
+// And its points: the start and one for each section, zeros behind them; none of a line that is not adjusted.
+pub struct LineFigures {
+    pub answer: LineSummary,
     pub points: [Point; 65],
 }
 
@@ -70,6 +87,12 @@ pub enum Answer {
 pub struct Totals {
     pub closure: i64,
     pub distance: i64,
+}
+
+// What is answered of the sections between two known heights: W and L, or that the figures do not fit.
+pub enum LineTotals {
+    Totalled(Totals),
+    NotTotalled,
 }
 
 // Whether a height is in document 01's range.
@@ -87,58 +110,58 @@ fn figures_fit(start: i64, end: i64, s: Sections) -> bool
     (0 < s.count) & !misfit & height_in_range(start) & height_in_range(end)
 }
 
-// W and L of the sections between two known heights; zeros where `figures_fit` fails.
-pub fn totals_of(start: i64, end: i64, s: Sections) -> Totals
-    ensures { λ r. ⌜ r ≡ totalsIfFit start end (sectionsOf s) ⌝ }
+// W and L of the sections between two known heights, where `figures_fit`.
+pub fn totals_of(start: i64, end: i64, s: Sections) -> LineTotals
+    ensures { λ r. ⌜ r ≡ lineTotals start end (sectionsOf s) ⌝ }
 {
     if figures_fit(start, end, s) {
-        let f = heights::known_of(start, end, s);
-        return Totals {
-            closure: f.closing,
-            distance: f.total,
-        };
+        return LineTotals::Totalled(sums::totals_between(start, end, s));
     }
-    Totals {
-        closure: 0,
-        distance: 0,
-    }
+    LineTotals::NotTotalled
 }
 
 // The closing of figures that fit.
-fn closing_of(order: Order, start: Benchmark, end: i64, s: Sections) -> Adjusted
-    requires { ⌜ Between (start .height) end s × Fitted s ⌝ }
-    ensures { λ r. ⌜ r ≡ adjustedOf (closing order start end (sectionsOf s)) ⌝ }
+fn closing_of(opening: Opening, end: i64, s: Sections) -> LineFigures
+    requires { ⌜ Between (opening .start .height) end s × Fitted s ⌝ }
+    ensures { λ r. ⌜ r ≡ adjustedOf (closing opening end (sectionsOf s)) ⌝ }
 {
-    let f = heights::known_of(start.height, end, s);
-    let t = accidental::accidental_sum(order, s);
-    let verdict = accidental::verdict_of(order, s.count, t);
-    let points = heights::points_of(f, start.number, s);
+    let order = opening.order;
+    let start = opening.start;
+    let terms = terms::terms_of(order);
+    let t = sums::totals_between(start.height, end, s);
+    let accidental = accidental::accidental_sum(terms, s);
+    let verdict = accidental::verdict_of(terms, s.count, accidental);
+    let points = heights::points_of(start.height, t, start.number, s);
     let summary = Summary {
-        closure: f.closing,
-        distance: f.total,
+        closure: t.closure,
+        distance: t.distance,
         count: s.count,
-        accidental: t,
+        accidental: accidental,
         verdict: verdict,
     };
-    Adjusted {
-        summary: summary,
+    LineFigures {
+        answer: LineSummary::Adjusted(summary),
         points: points,
     }
 }
 
-// What closing the line gives: W, L, n, T, the verdict and the points; zeros where `figures_fit` does not hold.
-pub fn adjusted_line(order: Order, start: Benchmark, end: i64, s: Sections) -> Adjusted
-    ensures { λ r. ⌜ r ≡ adjustedIfFit order start end (sectionsOf s) ⌝ }
+// What closing the line gives, where `figures_fit`: W, L, n, T, the verdict and the points.
+pub fn adjusted_line(opening: Opening, end: i64, s: Sections) -> LineFigures
+    ensures { λ r. ⌜ r ≡ lineFigures opening end (sectionsOf s) ⌝ }
 {
-    if figures_fit(start.height, end, s) {
-        return closing_of(order, start, end, s);
+    if figures_fit(opening.start.height, end, s) {
+        return closing_of(opening, end, s);
     }
-    no_line()
+    let none = no_points();
+    LineFigures {
+        answer: LineSummary::NotAdjusted,
+        points: none,
+    }
 }
 
-// No line: zeros.
-pub fn no_line() -> Adjusted
-    ensures { λ r. ⌜ r ≡ adjustedOf nothing ⌝ }
+// No points: zeros in every place.
+pub fn no_points() -> [Point; 65]
+    ensures { λ r. ⌜ r ≡ filled noPoint 65 [] ⌝ }
 {
     let none = Point {
         number: 0,
@@ -146,16 +169,5 @@ pub fn no_line() -> Adjusted
         correction: 0,
         height: 0,
     };
-    let summary = Summary {
-        closure: 0,
-        distance: 0,
-        count: 0,
-        accidental: 0,
-        verdict: 0,
-    };
-    let points = [none; 65];
-    Adjusted {
-        summary: summary,
-        points: points,
-    }
+    [none; 65]
 }

@@ -1,17 +1,17 @@
-// The sums of Q and R over the sections of a line.
+// The sums of Q and R over the sections of a line, and W.
 ghost use mathlib.Core.Path.{_≡_};
-ghost use Prim.Native.Nat.{_<_};
 ghost use lib.IntN.{_+ℤ_};
 ghost use Rattle.adjust.specs.Sections.{sectionsOf};
-ghost use Rattle.adjust.specs.Line.{lineHeight, lineLength};
-ghost use Rattle.adjust.specs.Bounds.{Fits, LegBounds, Summed};
+ghost use Rattle.adjust.specs.Line.{lineHeight, lineLength, totals};
+ghost use Rattle.adjust.specs.code.Bounds.{Fits, Between, LegBounds, Summed};
 use super::Section;
 use super::Sections;
+use super::Totals;
 use super::table::section_at;
 
-pub(crate) struct Sums {
-    pub(crate) height: i64,
-    pub(crate) distance: i64,
+struct Sums {
+    height: i64,
+    distance: i64,
 }
 
 fn with_section(t: Sums, x: Section) -> Sums
@@ -24,7 +24,7 @@ fn with_section(t: Sums, x: Section) -> Sums
     }
 }
 
-pub(crate) fn sums_of(s: Sections) -> Sums
+fn sums_of(s: Sections) -> Sums
     requires { ⌜ Fits s ⌝ }
     ensures { λ r. ⌜ r ≡ record { height = lineHeight (sectionsOf s); distance = lineLength (sectionsOf s) } ⌝ }
 {
@@ -39,4 +39,16 @@ pub(crate) fn sums_of(s: Sections) -> Sums
         k += 1;
     }
     t
+}
+
+// W and L of the sections between two known heights.
+pub(crate) fn totals_between(start: i64, end: i64, s: Sections) -> Totals
+    requires { ⌜ Between start end s ⌝ }
+    ensures { λ r. ⌜ r ≡ totals start end (sectionsOf s) ⌝ }
+{
+    let t = sums_of(s);
+    Totals {
+        closure: 4 * start + t.height - 4 * end,
+        distance: t.distance,
+    }
 }

@@ -2,7 +2,7 @@
 ghost use mathlib.Core.Path.{_≡_};
 ghost use Prim.Native.Nat.{_<_, _≤_};
 ghost use lib.ListN.{length};
-ghost use Rattle.adjust.specs.Sections.{sectionAt, sectionsOf, unnumbered, lent, outside, anyOutside, misfitIn};
+ghost use Rattle.adjust.specs.Sections.{sectionAt, sectionsOf, unnumbered, lent, outside, anyOutside, misfit};
 use super::Section;
 use super::Sections;
 use roots::limits::magnitude;
@@ -54,25 +54,16 @@ pub(crate) fn any_outside<'a>(
     false
 }
 
-// Whether there are more than 64 sections, or one outside the wider range; so too where a list has fewer places.
+// Whether there are more than 64 sections, or one outside the wider range.
 pub fn misfits<'a>(
     count: usize,
-    heights: &'a [i64],
-    distances: &'a [i64],
-    discrepancies: &'a [i64],
+    heights: &'a [i64; 64],
+    distances: &'a [i64; 64],
+    discrepancies: &'a [i64; 64],
 ) -> bool
-    ensures { λ r. ⌜ r ≡ misfitIn count (now (heights .entry)) (now (distances .entry)) (now (discrepancies .entry)) ⌝ }
+    ensures { λ r. ⌜ r ≡ misfit (sectionsOf (lent count (now (heights .entry)) (now (distances .entry)) (now (discrepancies .entry)))) ⌝ }
 {
     if 64 < count {
-        return true;
-    }
-    if heights.len() < count {
-        return true;
-    }
-    if distances.len() < count {
-        return true;
-    }
-    if discrepancies.len() < count {
         return true;
     }
     any_outside(false, count, heights, distances, discrepancies)

@@ -2,7 +2,7 @@
 ghost use mathlib.Core.Path.{_≡_};
 ghost use Prim.Native.Nat.{_*_, _<_};
 ghost use lib.Dec.{leb};
-ghost use Rattle.roots.specs.Wide.{Digits, valueOf};
+ghost use Rattle.roots.specs.code.Wide.{Digits, valueOf};
 
 // hi * 2^40 + lo, with lo below 2^40.
 struct Wide {

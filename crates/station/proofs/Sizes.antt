@@ -10,7 +10,7 @@ use Rattle.numbers.proofs.Tests.{and-l, and-r, not-false}
 use Rattle.numbers.proofs.Equal.{eqZ-eq}
 use Rattle.numbers.proofs.Sizes.{between-size, abs-add, abs-sub}
 use Rattle.numbers.proofs.Tables.{failed}
-use Rattle.station.specs.Bounds.{SmallSighting, Small}
+use Rattle.station.specs.code.Bounds.{SmallSighting, Small}
 use Rattle.station.specs.Station.{Staff, Station, stationOf, sight, sightingOf, figuresOf, readingsInRange, constantsPaired, threadsInOrder, readingTests, readingRefusal}
 
 pub record SmallStaff (s : Staff) : Type 0 where

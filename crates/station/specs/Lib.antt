@@ -1,2 +1,2 @@
 pub mod Station
-pub mod Bounds
+pub mod code

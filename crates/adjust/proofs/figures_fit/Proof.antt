@@ -6,7 +6,6 @@ use Rattle.numbers.proofs.Machine.{stored-id}
 use Rattle.adjust.specs.Sections.{heightInRange}
 use Rattle.adjust.specs.Frames.{figuresFit}
 use Rattle.adjust.proofs.Lists.{from-length}
-use Rattle.adjust.proofs.Holding.{Whole}
 use Rattle.adjust.proofs.Lent.{misfit-lent}
 use borrow.Author.Needs.{needs}
 use Rattle.adjust.proofs.figures_fit.Statement.{statement}
@@ -21,17 +20,14 @@ height-in-range-requires c κs = search needs
 height-in-range-requires-2 : tie.Need-height-in-range-requires-2
 height-in-range-requires-2 c κs = search needs
 
-whole : (s : tie.Start) → Whole (s .args .t3)
-whole s = search needs
-
 returns : tie.Need-returns
 unfolding figuresFit
 returns c =
     let m = c .before .before in
-    let s = m .before .before .before .before .before .before .before .before in
+    let s = m .before .before .before .before .before in
     let start = c .before .height-in-range .ensures ∙ ap heightInRange (stored-id (s .fits .start)) in
     let end = c .height-in-range2 .ensures ∙ ap heightInRange (stored-id (s .fits .end)) in
-    λ i. ltb 0 (sym (from-length (s .args .t3) 0 (s .args .t3 .count)) i) && not ((m .misfits .ensures ∙ misfit-lent (s .args .t3) (whole s)) i) && start i && end i
+    λ i. ltb 0 (sym (from-length (s .args .t3) 0 (s .args .t3 .count)) i) && not ((m .misfits .ensures ∙ misfit-lent (s .args .t3)) i) && start i && end i
 
 pub figures-fit-spec : {M : Type 1} → statement M
 figures-fit-spec =

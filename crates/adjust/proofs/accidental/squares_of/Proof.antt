@@ -16,7 +16,7 @@ use Rattle.adjust.specs.declared.accidental.Total.{Total}
 use Rattle.adjust.specs.Sizes.{mostD, mostT, mostSumT}
 use Rattle.adjust.specs.Sections.{sectionAt, sectionsOf, legFits, sectionFits}
 use Rattle.adjust.specs.Line.{accidental}
-use Rattle.adjust.specs.Bounds.{LegBounds}
+use Rattle.adjust.specs.code.Bounds.{LegBounds}
 use Rattle.adjust.proofs.Lists.{remaining, all-remain, next-remains, none-remain, leg-bounds}
 use Rattle.adjust.proofs.Bounded.{accidental-size}
 use Rattle.adjust.proofs.accidental.squares_of.Statement.{statement}

@@ -1,70 +1,55 @@
--- `verdict_of` meets its contract, order by order and limit by limit.
-use mathlib.Core.Path.{_≡_, sym, ap, _∙_}
-use mathlib.Core.Bool.{Bool, true, false, cond}
+-- `verdict_of` meets its contract, test by test: what is allowed of T fits.
+use mathlib.Core.Path.{_≡_, refl, sym, _∙_}
+use mathlib.Core.Bool.{Bool, not, cond, _||_}
 use Prim.Native.Nat.{ℕ, _*_}
-use native.Mathlib.Omega.{arith}
 use lib.Dec.{ltb}
-use lib.IntN.{ℤ, pos}
+use lib.IntN.{ℤ, pos, _*ℤ_}
 use lib.Signed.{leZ}
 use mir.Syntax.{w64}
 use mir.Val.{toZ}
 use borrow.Author.Needs.{needs}
-use borrow.Author.Tests.{le-ltb, lt-ltb}
-use Rattle.station.specs.declared.Order.{Order}
-use Rattle.station.specs.declared.Order.the-variants.{Third}
 use Rattle.numbers.proofs.Machine.{stored, stored-id, le-as}
-use Rattle.numbers.proofs.Chain.{cast}
+use Rattle.numbers.proofs.Chain.{Value, known, cast, mul, fits, kept}
+use Rattle.adjust.specs.declared.terms.Terms.{Terms}
+use Rattle.adjust.specs.Sizes.{mostAllowed}
 use Rattle.adjust.specs.Line.{verdict}
 use Rattle.adjust.proofs.accidental.verdict_of.Statement.{statement}
 use Rattle.adjust.proofs.accidental.verdict_of.Tie as tie
 
--- at third order, by the two tests
-third : (o : Order) (n : ℕ) (t : ℤ) (few low : Bool) → o ≡ Third → ltb n 20 ≡ few → leZ t (pos (3600 * n)) ≡ low → verdict o n t ≡ cond few 0 (cond low 1 2)
-third o n t few low e f g = ap (λ (x : Order). verdict x n t) e ∙ (λ i. cond (f i) 0 (cond (g i) 1 2))
+-- the verdict, by the two tests
+by-tests : (terms : Terms) (n : ℕ) (t : ℤ) {none low : Bool} → not (terms .double) || ltb n 20 ≡ none → leZ t (terms .accidental *ℤ pos n) ≡ low
+    → cond none 0 (cond low 1 2) ≡ verdict terms n t
+by-tests terms n t e f = λ i. cond (sym e i) 0 (cond (sym f i) 1 2)
 
-enum-told : tie.Need-enum-told
-enum-told c = search needs
-
-mul-if2 : tie.Need-mul-if2
-mul-if2 c = search needs
+-- the most of T that is allowed
+allowed : (s : tie.Start) → Value (stored (s .args .terms .accidental) *ℤ toZ w64 (s .args .count)) (s .args .terms .accidental *ℤ pos (s .args .count)) (mostAllowed * 64)
+allowed s = mul (known (s .args .terms .accidental) (s .pre .1) tt) (cast (s .args .count) (s .pre .0) tt)
 
 cast-if2 : tie.Need-cast-if2
 cast-if2 c = search needs
 
-enum-told-2 : tie.Need-enum-told-2
-enum-told-2 c = search needs
+mul-if2 : tie.Need-mul-if2
+mul-if2 c = fits (allowed (c .before .before .before .before)) tt
 
 returns : tie.Need-returns
-returns c =
-    let s = c .before .before .before in
-    let n = s .args .count in
-    sym (third (s .args .order) n (s .args .t) true (leZ (s .args .t) (pos (3600 * n))) (c .before .enum-told .given .1) (lt-ltb n 20 (c .if1 .taken)) (λ i. leZ (s .args .t) (pos (3600 * n))))
+returns c = let a = c .before .before .args in by-tests (a .terms) (a .count) (a .t) (c .if1 .taken) refl
 
--- T against its limit, as the machine compares them
-compared :
-    (c : tie.Else1)
-    → leZ (stored (c .before .before .before .args .t)) (toZ w64 (3600 * c .before .before .before .args .count))
-    ≡ leZ (c .before .before .before .args .t) (pos (3600 * c .before .before .before .args .count))
-compared c =
-    let s = c .before .before .before in
-    le-as (stored-id (s .fits .t)) (cast (3600 * s .args .count) {k = 230400} (omega (arith, s .pre)) tt .is)
-
--- from 20 sections on
-third-full :
-    (c : tie.Else1) (low : Bool) → leZ (c .before .before .before .args .t) (pos (3600 * c .before .before .before .args .count)) ≡ low
-    → verdict (c .before .before .before .args .order) (c .before .before .before .args .count) (c .before .before .before .args .t) ≡ cond low 1 2
-third-full c low e =
-    let s = c .before .before .before in
-    third (s .args .order) (s .args .count) (s .args .t) false low (c .before .enum-told .given .1) (le-ltb (s .args .count) 20 (c .if1 .left)) e
+-- T against it, as the machine compares them
+compared : (s : tie.Start) {low : Bool} → leZ (stored (s .args .t)) (stored (stored (s .args .terms .accidental) *ℤ toZ w64 (s .args .count))) ≡ low
+    → leZ (s .args .t) (s .args .terms .accidental *ℤ pos (s .args .count)) ≡ low
+compared s e = sym (le-as (stored-id (s .fits .t)) (kept (allowed s) tt .is)) ∙ e
 
 returns-2 : tie.Need-returns-2
-returns-2 c = sym (third-full (c .before) true (sym (compared (c .before)) ∙ c .if2 .taken))
+returns-2 c =
+    let few = c .before .before .before in
+    let s = few .before .before in
+    by-tests (s .args .terms) (s .args .count) (s .args .t) (few .if1 .left) (compared s (c .if2 .taken))
 
 returns-3 : tie.Need-returns-3
-returns-3 c = sym (third-full (c .before) false (sym (compared (c .before)) ∙ c .if2 .left))
-
-returns-4 : tie.Need-returns-4
-returns-4 c = search needs
+returns-3 c =
+    let few = c .before .before .before in
+    let s = few .before .before in
+    by-tests (s .args .terms) (s .args .count) (s .args .t) (few .if1 .left) (compared s (c .if2 .left))
 
 pub verdict-of-spec : {M : Type 1} → statement M
-verdict-of-spec = tie.close (tie.spec enum-told mul-if2 cast-if2 enum-told-2 returns returns-2 returns-3 returns-4)
+verdict-of-spec = tie.close (tie.spec cast-if2 mul-if2 returns returns-2 returns-3)

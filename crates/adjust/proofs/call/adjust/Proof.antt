@@ -9,16 +9,16 @@ use borrow.Author.Needs.{needs}
 use Rattle.numbers.specs.Whole.{filled, over}
 use Rattle.numbers.proofs.Filled.{filled-take}
 use Rattle.numbers.proofs.Tables.{zero-cond, nonzero-cond}
-use Rattle.numbers.proofs.Machine.{stored-both, holds-stored}
+use Rattle.numbers.proofs.Machine.{stored, stored-both, holds-stored}
 use Rattle.adjust.specs.declared.Point.{Point}
 use Rattle.adjust.specs.declared.Section.{Section}
 use Rattle.adjust.specs.declared.Answer.the-variants.{Taken, Refused}
-use Rattle.adjust.specs.declared.heights.Known.{Known}
+use Rattle.adjust.specs.declared.Totals.{Totals}
 use Rattle.adjust.specs.Sections.{sectionsOf}
-use Rattle.adjust.specs.Line.{Frame, frameOf, closure, lineLength, sectionPoints, points}
-use Rattle.adjust.specs.Frames.{frame, noPoint}
+use Rattle.adjust.specs.Line.{Frame, frame, frameOf, sectionPoints, points}
+use Rattle.adjust.specs.Frames.{noPoint}
 use Rattle.adjust.specs.Call.{adjustRefusal, adjustedHeights, heightsAfter}
-use Rattle.adjust.specs.Bounds.{Between, Framed}
+use Rattle.adjust.specs.code.Bounds.{Between, Framed}
 use Rattle.adjust.proofs.Lists.{from-length, points-length}
 use Rattle.adjust.proofs.Sized.{framed, adjustable}
 use Rattle.adjust.proofs.call.adjust.Statement.{statement}
@@ -63,24 +63,13 @@ taken c = sym (number (c .before)) ∙ c .if1 .left
 between : (c : tie.Else1) → Between (c .before .before .args .start) (c .before .before .args .end) (c .before .before .args .s)
 between c = let s = c .before .before in adjustable (s .args .start) (s .args .end) (s .args .s) (length (s .args .heights .now)) (taken c) .0
 
-known-of-requires : tie.Need-known-of-requires
-known-of-requires c κs =
+totals-between-requires : tie.Need-totals-between-requires
+totals-between-requires c κs =
     let s = c .before .before in
     holds-stored (λ x y. Between x y (s .args .s)) (s .fits .start) (s .fits .end) (between c)
 
-abbrev line : tie.Start → Known
-line s =
-    let ss = sectionsOf (s .args .s) in
-    record { start = s .args .start; closing = closure (s .args .start) (s .args .end) ss; total = lineLength ss }
-
-known-is : (c : tie.After-known-of) → c .known-of .result ≡ line (c .before .before .before)
-known-is c =
-    let s = c .before .before .before in
-    let ss = sectionsOf (s .args .s) in
-    c .known-of .ensures ∙ stored-both (λ x y. record { start = x; closing = closure x y ss; total = lineLength ss }) (s .fits .start) (s .fits .end)
-
 points-of-requires : tie.Need-points-of-requires
-points-of-requires c κs = (subst Framed (sym (known-is c)) (framed (between (c .before))), between (c .before) .fits)
+points-of-requires c κs = (subst (Framed _) (sym (c .totals-between .ensures)) (framed (totals-between-requires (c .before) κs)), between (c .before) .fits)
 
 put-heights-requires : tie.Need-put-heights-requires
 put-heights-requires c κs =
@@ -102,7 +91,10 @@ returns-2 c =
     let ss = sectionsOf (s .args .s) in
     let f = frameOf (s .args .start) (s .args .end) ss in
     let zero = taken e in
-    let shown = p .points-of .ensures ∙ ap (λ (z : Known). filled noPoint 65 (points (frame z) (pos 0) ss)) (known-is k) in
+    let shown =
+    p .points-of .ensures
+    ∙ ap (λ (t : Totals). filled noPoint 65 (points (frame (stored (s .args .start)) t) (pos 0) ss)) (k .totals-between .ensures)
+    ∙ stored-both (λ x y. filled noPoint 65 (points (frameOf x y ss) (pos 0) ss)) (s .fits .start) (s .fits .end) in
     let wrote =
     put .put-heights .ensures
     ∙ ap (λ (xs : List Point). over (map (λ (p : Point). p .height) (take (s .args .s .count) (drop 1 xs))) (s .args .heights .now)) shown
@@ -113,4 +105,4 @@ returns-2 c =
 pub adjust-spec : {M : Type 1} → statement M
 adjust-spec =
     tie.close
-    (tie.spec adjust-refusal-requires returns known-of-requires points-of-requires put-heights-requires same-length returns-2)
+    (tie.spec adjust-refusal-requires returns totals-between-requires points-of-requires put-heights-requires same-length returns-2)

@@ -9,8 +9,8 @@ use Rattle.numbers.proofs.Ring.{one-mulℤ}
 use Rattle.numbers.proofs.Machine.{stored, stored-id}
 use Rattle.numbers.proofs.Chain.{Value, known, literal, add, sub, mul, fits, kept}
 use Rattle.adjust.specs.Sizes.{mostQ, mostR, mostSumQ, mostL, mostPrinted}
-use Rattle.adjust.specs.Line.{printedHeight}
-use Rattle.adjust.specs.Frames.{frame}
+use Rattle.adjust.specs.Line.{frame, printedHeight}
+use Rattle.adjust.specs.code.Bounds.{Framed}
 use Rattle.adjust.proofs.Bounded.{printed-size}
 use Rattle.adjust.proofs.heights.next_point.Statement.{statement}
 use Rattle.adjust.proofs.heights.next_point.Tie as tie
@@ -35,7 +35,7 @@ add-s c = fits (distance (c .before .before .before .before .before .before .bef
 printed-height-requires : tie.Need-printed-height-requires
 printed-height-requires c κs =
     let s = c .before .before .before .before .before .before .before .before in (
-      s .pre .0,
+      subst (λ (z : ℤ). Framed z (s .args .t)) (sym (stored-id (s .fits .start))) (s .pre .0),
       subst (λ (z : ℤ). natAbs z ≤ mostSumQ) (sym (kept (height s) tt .is)) (height s .size),
       subst (λ (z : ℤ). natAbs z ≤ mostL) (sym (kept (distance s) tt .is)) (distance s .size),
     )
@@ -44,20 +44,20 @@ start : tie.After-printed-height → tie.Start
 start c = c .before .before .before .before .before .before .before .before .before
 
 abbrev printed : tie.Start → ℤ
-printed s = printedHeight (frame (s .args .f)) (s .args .w .height +ℤ s .args .x .height) (s .args .w .point .distance +ℤ s .args .x .distance)
+printed s = printedHeight (frame (s .args .start) (s .args .t)) (s .args .w .height +ℤ s .args .x .height) (s .args .w .point .distance +ℤ s .args .x .distance)
 
 printed-is : (c : tie.After-printed-height) → c .printed-height .result ≡ printed (start c)
 unfolding start
 printed-is c =
     let s = start c in
-    c .printed-height .ensures ∙ (λ i. printedHeight (frame (s .args .f)) (kept (height s) tt .is i) (kept (distance s) tt .is i))
+    c .printed-height .ensures ∙ (λ i. printedHeight (frame (stored-id (s .fits .start) i) (s .args .t)) (kept (height s) tt .is i) (kept (distance s) tt .is i))
 
 result-size : (c : tie.After-printed-height) → natAbs (c .printed-height .result) ≤ mostPrinted
 unfolding start
 result-size c =
     let s = start c in
     subst (λ (z : ℤ). natAbs z ≤ mostPrinted) (sym (printed-is c))
-    (printed-size (s .args .f) (s .args .w .height +ℤ s .args .x .height) (s .args .w .point .distance +ℤ s .args .x .distance) (s .pre .0) (height s .size) (distance s .size))
+    (printed-size (s .args .start) (s .args .t) (s .args .w .height +ℤ s .args .x .height) (s .args .w .point .distance +ℤ s .args .x .distance) (s .pre .0) (height s .size) (distance s .size))
 
 -- ---- the correction
 
@@ -79,17 +79,17 @@ module _ (c : tie.After-printed-height) where
   unfolding start
   correction = sub (kept four tt) (known (start c .args .x .height) (start c .pre .2 .height) tt)
 
-sub-t8 : tie.Need-sub-t8
+sub-t9 : tie.Need-sub-t9
 unfolding start
-sub-t8 c = fits (rise (c .before .before)) tt
+sub-t9 c = fits (rise (c .before .before)) tt
 
-mul-t9 : tie.Need-mul-t9
+mul-t10 : tie.Need-mul-t10
 unfolding start
-mul-t9 c = fits (four (c .before .before)) tt
+mul-t10 c = fits (four (c .before .before)) tt
 
-sub-t10 : tie.Need-sub-t10
+sub-t11 : tie.Need-sub-t11
 unfolding start
-sub-t10 c = fits (correction (c .before .before .before .before)) tt
+sub-t11 c = fits (correction (c .before .before .before .before)) tt
 
 number-fits : (s : tie.Start) → SFits w64 (s .args .x .number)
 number-fits s = search needs
@@ -110,4 +110,4 @@ returns c =
     }
 
 pub next-point-spec : {M : Type 1} → statement M
-next-point-spec = tie.close (tie.spec add-q add-s printed-height-requires sub-t8 mul-t9 sub-t10 returns)
+next-point-spec = tie.close (tie.spec add-q add-s printed-height-requires sub-t9 mul-t10 sub-t11 returns)

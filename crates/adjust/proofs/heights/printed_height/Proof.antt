@@ -10,16 +10,15 @@ use mir.Val.{SFits}
 use Rattle.roots.specs.Round.{roundEven, divisor}
 use Rattle.roots.proofs.RoundLaws.{divisor-in}
 use Rattle.numbers.proofs.Parts.{ints, parts-times, parts-abs}
-use Rattle.numbers.proofs.Machine.{stored, stored-id, stored-both}
+use Rattle.numbers.proofs.Machine.{stored, stored-id}
 use Rattle.numbers.proofs.Chain.{Value, known, literal, mul, fits, kept}
 use Rattle.adjust.specs.Sizes.{mostL}
-use Rattle.adjust.specs.Line.{exactTop}
-use Rattle.adjust.specs.Frames.{frame}
+use Rattle.adjust.specs.Line.{frame, exactTop}
 use Rattle.adjust.proofs.heights.printed_height.Statement.{statement}
 use Rattle.adjust.proofs.heights.printed_height.Tie as tie
 
-abbrev total : (s : tie.Start) → Value (pos 4 *ℤ stored (s .args .f .total)) (pos 4 *ℤ s .args .f .total) (4 * mostL)
-total s = mul (literal (pos 4)) (known (s .args .f .total) (s .pre .0 .total) tt)
+abbrev total : (s : tie.Start) → Value (pos 4 *ℤ stored (s .args .t .distance)) (pos 4 *ℤ s .args .t .distance) (4 * mostL)
+total s = mul (literal (pos 4)) (known (s .args .t .distance) (s .pre .0 .distance) tt)
 
 divides : (l : ℤ) → pos 1 ≤ℤ l → natAbs l ≤ mostL → divisor (pos 4 *ℤ l) ≡ natAbs (pos 4 *ℤ l)
 divides l h k =
@@ -41,9 +40,9 @@ returns c =
     let e = c .before .before .before .exact-top in
     let top : SFits w64 (e .result) = record { sfits = e .ok } in
     let out : SFits w64 (c .round-half-even .result) = record { sfits = c .round-half-even .ok } in
-    let n = stored-id top ∙ e .ensures ∙ stored-both (exactTop (frame (s .args .f))) (s .fits .q) (s .fits .s) in
+    let n = stored-id top ∙ e .ensures ∙ (λ i. exactTop (frame (stored-id (s .fits .start) i) (s .args .t)) (stored-id (s .fits .q) i) (stored-id (s .fits .s) i)) in
     stored-id out ∙ c .round-half-even .ensures ∙ (λ i. roundEven (n i) (divisor (kept (total s) tt .is i)))
-    ∙ ap (roundEven (exactTop (frame (s .args .f)) (s .args .q) (s .args .s))) (divides (s .args .f .total) (s .pre .0 .long) (s .pre .0 .total))
+    ∙ ap (roundEven (exactTop (frame (s .args .start) (s .args .t)) (s .args .q) (s .args .s))) (divides (s .args .t .distance) (s .pre .0 .long) (s .pre .0 .distance))
 
 pub printed-height-spec : {M : Type 1} → statement M
 printed-height-spec = tie.close (tie.spec exact-top-requires mul-round-half-even round-half-even-requires returns)

@@ -10,7 +10,7 @@ use Rattle.adjust.specs.declared.Sections.{Sections}
 use Rattle.adjust.specs.declared.sums.Sums.{Sums}
 use Rattle.adjust.specs.Sections.{sectionAt, sectionsOf}
 use Rattle.adjust.specs.Line.{lineHeight, lineLength}
-use Rattle.adjust.specs.Bounds.{LegBounds, Summed}
+use Rattle.adjust.specs.code.Bounds.{LegBounds, Summed}
 use Rattle.adjust.proofs.Lists.{remaining, all-remain, next-remains, none-remain, Fit, fit-head, fit-tail}
 use Rattle.adjust.proofs.sums.sums_of.Statement.{statement}
 use Rattle.adjust.proofs.sums.sums_of.Tie as tie

@@ -3,7 +3,7 @@ use mathlib.Core.Path.{sym}
 use native.Mathlib.Omega.{arith}
 use borrow.Author.Tests.{le-leb, lt-leb}
 use Rattle.numbers.proofs.Tests.{leb-same}
-use Rattle.roots.specs.Wide.{valueOf}
+use Rattle.roots.specs.code.Wide.{valueOf}
 use Rattle.roots.proofs.wide.not_above.Statement.{statement}
 use Rattle.roots.proofs.wide.not_above.Tie as tie
 

@@ -7,8 +7,8 @@ use lib.Signed.{_≤ℤ_}
 use Rattle.numbers.specs.Whole.{anyOf}
 use Rattle.adjust.specs.declared.Section.{Section}
 use Rattle.adjust.specs.declared.Sections.{Sections}
+use Rattle.adjust.specs.declared.Totals.{Totals}
 use Rattle.adjust.specs.declared.sums.Sums.{Sums}
-use Rattle.adjust.specs.declared.heights.Known.{Known}
 use Rattle.adjust.specs.declared.heights.Progress.{Progress}
 use Rattle.adjust.specs.Sizes.{highest, mostQ, mostR, mostL, mostW, mostPrinted}
 use Rattle.adjust.specs.Sections.{sectionsOf, legFits, anyOutside}
@@ -41,11 +41,11 @@ pub record Summed (k : ℕ) (t : Sums) : Type 0 where
   pub distance : natAbs (t .distance) ≤ mostR * k
 
 -- the known height at the start, and W and L, of up to 64 sections
-pub record Framed (f : Known) : Type 0 where
-  pub start : natAbs (f .start) ≤ highest
-  pub closing : natAbs (f .closing) ≤ mostW
-  pub total : natAbs (f .total) ≤ mostL
-  pub long : pos 1 ≤ℤ f .total
+pub record Framed (start : ℤ) (t : Totals) : Type 0 where
+  pub height : natAbs start ≤ highest
+  pub closure : natAbs (t .closure) ≤ mostW
+  pub distance : natAbs (t .distance) ≤ mostL
+  pub long : pos 1 ≤ℤ t .distance
 
 -- the running sums and the last height after k of up to 64 sections
 pub record Reached (k : ℕ) (w : Progress) : Type 0 where

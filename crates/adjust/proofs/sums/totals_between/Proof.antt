@@ -1,4 +1,4 @@
--- `known_of` meets its contract: W fits for one to 64 sections.
+-- `totals_between` meets its contract: W fits for one to 64 sections.
 use mathlib.Core.Path.{_≡_, ap, _∙_}
 use Prim.Native.Nat.{_+_, _*_, _≤_}
 use native.Mathlib.Omega.{arith}
@@ -11,8 +11,8 @@ use Rattle.adjust.specs.Sections.{sectionsOf}
 use Rattle.adjust.specs.Line.{lineHeight, lineLength}
 use Rattle.adjust.proofs.Lists.{from-length}
 use Rattle.adjust.proofs.Sized.{height-size, length-size}
-use Rattle.adjust.proofs.heights.known_of.Statement.{statement}
-use Rattle.adjust.proofs.heights.known_of.Tie as tie
+use Rattle.adjust.proofs.sums.totals_between.Statement.{statement}
+use Rattle.adjust.proofs.sums.totals_between.Tie as tie
 
 sums-of-requires : tie.Need-sums-of-requires
 sums-of-requires c κs = c .pre .fits
@@ -44,10 +44,10 @@ module _ (c : tie.After-sums-of) where
   raw : Value (stored (pos 4 *ℤ stored (s .args .start)) +ℤ stored (c .sums-of .result .height)) (pos 4 *ℤ s .args .start +ℤ c .sums-of .result .height) (4 * highest + mostSumQ)
   raw = add (kept four-start tt) (known (c .sums-of .result .height) height-small tt)
 
-  closing :
+  closure :
       Value (stored (stored (pos 4 *ℤ stored (s .args .start)) +ℤ stored (c .sums-of .result .height)) -ℤ stored (pos 4 *ℤ stored (s .args .end)))
       (pos 4 *ℤ s .args .start +ℤ c .sums-of .result .height -ℤ pos 4 *ℤ s .args .end) mostW
-  closing = sub (kept raw tt) (kept four-end tt)
+  closure = sub (kept raw tt) (kept four-end tt)
 
 mul-t5 : tie.Need-mul-t5
 mul-t5 c = fits (four-start c) tt
@@ -59,7 +59,7 @@ mul-t7 : tie.Need-mul-t7
 mul-t7 c = fits (four-end (c .before .before)) tt
 
 sub-t8 : tie.Need-sub-t8
-sub-t8 c = fits (closing (c .before .before)) tt
+sub-t8 c = fits (closure (c .before .before)) tt
 
 returns : tie.Need-returns
 returns c =
@@ -67,10 +67,9 @@ returns c =
     let s = r .before in
     λ i.
     record {
-      start = known (s .args .start) (s .pre .start-size) tt .is i;
-      closing = (kept (closing r) tt .is ∙ ap (λ (z : ℤ). pos 4 *ℤ s .args .start +ℤ z -ℤ pos 4 *ℤ s .args .end) (height-is r)) i;
-      total = (known (r .sums-of .result .distance) (distance-small r) tt .is ∙ distance-is r) i;
+      closure = (kept (closure r) tt .is ∙ ap (λ (z : ℤ). pos 4 *ℤ s .args .start +ℤ z -ℤ pos 4 *ℤ s .args .end) (height-is r)) i;
+      distance = (known (r .sums-of .result .distance) (distance-small r) tt .is ∙ distance-is r) i;
     }
 
-pub known-of-spec : {M : Type 1} → statement M
-known-of-spec = tie.close (tie.spec sums-of-requires mul-t5 add-t6 mul-t7 sub-t8 returns)
+pub totals-between-spec : {M : Type 1} → statement M
+totals-between-spec = tie.close (tie.spec sums-of-requires mul-t5 add-t6 mul-t7 sub-t8 returns)

@@ -1,0 +1,21 @@
+-- `terms_of` meets its contract, order by order.
+use mathlib.Core.Path.{sym, ap}
+use Rattle.adjust.specs.Terms.{termsOf}
+use borrow.Author.Needs.{needs}
+use Rattle.adjust.proofs.terms.terms_of.Statement.{statement}
+use Rattle.adjust.proofs.terms.terms_of.Tie as tie
+
+enum-told : tie.Need-enum-told
+enum-told c = search needs
+
+enum-told-2 : tie.Need-enum-told-2
+enum-told-2 c = search needs
+
+returns : tie.Need-returns
+returns c = sym (ap termsOf (c .enum-told .given .1))
+
+returns-2 : tie.Need-returns-2
+returns-2 c = sym (ap termsOf (c .enum-told2 .given .1))
+
+pub terms-of-spec : {M : Type 1} → statement M
+terms-of-spec = tie.close (tie.spec enum-told enum-told-2 returns returns-2)

@@ -1,0 +1,29 @@
+-- What an order of a line sets (document 01, 'Runs, sections and the standing list' and 'Closure, corrections, heights'): a row for each order. `Terms` in the code
+-- says what each field is, and its unit; 20,000 half dm are a kilometre. Nothing else in the rules goes by the order, but a station's limits (`limitsOf`).
+use mathlib.Core.Bool.{true, false}
+use lib.IntN.{pos}
+use Rattle.station.specs.declared.Order.{Order}
+use Rattle.station.specs.declared.Order.the-variants.{Third, Fourth}
+use Rattle.adjust.specs.declared.terms.Terms.{Terms}
+
+abbrev pub termsOf : Order → Terms
+-- levelled out and back; D and W within 12 √km; L at most 150 km, for a loop 200 km; T at most 3,600 × n
+termsOf Third =
+    record {
+      double = true;
+      apart = record { a = 625; b = 18 };
+      closing = record { a = 625; b = 72 };
+      longest = pos 3000000;
+      circuit = pos 4000000;
+      accidental = pos 3600;
+    }
+-- levelled one way; W within 20 √km; L at most 80 km, for a loop 100 km. Sections of one run have no D and no T: `apart` is never looked at, and there is no verdict
+termsOf Fourth =
+    record {
+      double = false;
+      apart = record { a = 625; b = 18 };
+      closing = record { a = 25; b = 8 };
+      longest = pos 1600000;
+      circuit = pos 2000000;
+      accidental = pos 0;
+    }

@@ -1,0 +1,50 @@
+// What an order of a line sets: the one table by which the rules go, but for a station's limits (`station::judge`).
+ghost use mathlib.Core.Path.{_≡_};
+ghost use Rattle.adjust.specs.Terms.{termsOf};
+use station::Order;
+
+// A root limit: x is within the root of l where a × x² ≤ b × l.
+pub struct Root {
+    pub a: u16,
+    pub b: u16,
+}
+
+pub struct Terms {
+    // Whether sections are levelled out and back, by double levelling: 'the first ended run waits; the second is its return'. Where not, 'an ended run is a section'.
+    pub double: bool,
+    // D, in half mm, against R, in half dm: 'D is within 12 √km'.
+    pub apart: Root,
+    // W, in quarter mm, against L, in half dm: 'third order (12 √km)', 'fourth (20 √km)'.
+    pub closing: Root,
+    // The longest line, in half dm: 'L is at most 150 km third, 80 km fourth'.
+    pub longest: i64,
+    // The longest loop, or levelling circuit, in half dm: 'for a loop 200 and 100 km'.
+    pub circuit: i64,
+    // The most of T for each section, in hundredths of mm² per km, from 20 sections on: 'T ≤ 3,600 × n'.
+    pub accidental: i64,
+}
+
+// The table.
+pub fn terms_of(order: Order) -> Terms
+    ensures { λ r. ⌜ r ≡ termsOf order ⌝ }
+{
+    match order {
+        Order::Third => Terms {
+            double: true,
+            apart: Root { a: 625, b: 18 },
+            closing: Root { a: 625, b: 72 },
+            longest: 3000000,
+            circuit: 4000000,
+            accidental: 3600,
+        },
+        // sections of one run have no D and no T: `apart` is never looked at, and there is no verdict
+        Order::Fourth => Terms {
+            double: false,
+            apart: Root { a: 625, b: 18 },
+            closing: Root { a: 25, b: 8 },
+            longest: 1600000,
+            circuit: 2000000,
+            accidental: 0,
+        },
+    }
+}
