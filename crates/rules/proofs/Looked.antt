@@ -1,68 +1,107 @@
--- What is seen of a book's sections: by the lent lists as by the book, and what it says of refusal 20 and of the loop.
+-- What is seen of a book where the code is lent the numbers of its sections, or none of their lists: each call but closing finds the same of them as of
+-- the book.
 use mathlib.Core.Path.{_≡_, refl, sym, ap, _∙_}
-use mathlib.Core.Bool.{Bool, true, false, not, _&&_, _||_}
-use mathlib.Core.List.{List}
-use Prim.Native.Nat.{ℕ, _≤_}
-use native.Mathlib.Omega.{arith}
-use lib.Dec.{leb, leb→le}
-use lib.ListN.{length}
-use lib.IntN.{ℤ}
-use Rattle.numbers.specs.Whole.{eqZ}
-use Rattle.numbers.proofs.Tests.{holds, or-l, or-r, not-false}
+use mathlib.Core.Bool.{Bool, false, not, cond, _&&_, _||_}
+use mathlib.Core.List.{List, [], _∷_, _++_, map}
+use Prim.Native.Nat.{ℕ, zero, suc, _+_, _%_}
+use lib.Dec.{leb, eqb}
+use lib.ListN.{length, getD}
+use lib.IntN.{ℤ, pos}
+use Rattle.numbers.specs.Whole.{eqZ, lastOf}
+use Rattle.numbers.specs.Tables.{firstOf}
+use Rattle.station.specs.Station.{stationOf, figuresOf}
 use Rattle.adjust.specs.declared.Section.{Section}
-use Rattle.adjust.specs.Sections.{sectionsOf, lent, anyOutside, misfit, misfitIn}
+use Rattle.adjust.specs.declared.Sections.{Sections}
+use Rattle.adjust.specs.Sections.{sectionsFrom, sectionsOf}
+use Rattle.adjust.specs.Terms.{termsOf}
 use Rattle.adjust.proofs.Lists.{from-length}
-use Rattle.adjust.proofs.Holding.{Whole}
-use Rattle.adjust.proofs.Lent.{any-alike, misfit-lent}
+use Rattle.adjust.proofs.Lent.{any-alike}
 use Rattle.rules.specs.declared.Line.{Line}
 use Rattle.rules.specs.declared.Book.{Book}
 use Rattle.rules.specs.declared.state.Seen.{Seen}
-use Rattle.rules.specs.Standing.{Standing, standingOf, isShut, onLine, lineBroken, misplaced, brokenBy, broken}
-use Rattle.rules.specs.Seen.{numbered, isAmong, seenIn}
+use Rattle.rules.specs.Standing.{Standing, standingOf, isFresh, isOpen, isEmpty, isReturn, isShut, began, onLine, outwardOrReturn, bothWays, lineBroken}
+use Rattle.rules.specs.Rules.{open-line, station, end-run, drop-run, discrepancyWithin, inputTests, stationTests, bookRefusal}
+use Rattle.rules.specs.code.Seen.{numbered, numbersIn, beside, isAmong, seenIn}
+use Rattle.rules.proofs.Unbroken.{empty-count}
 
--- what a book shows
-abbrev pub seenOf : Standing → Seen
-seenOf v = record { broken = broken v; shut = not (broken v) && isShut v }
+-- ---- what was seen, by whether the line is broken
 
--- a number is on the line of the arrays' sections where it is among the numbers
-pub among-sections : (b : Book) (number : ℤ) → isAmong (b .sections .count) (b .sections .numbers) number ≡ onLine (standingOf b) number
-among-sections b number =
-    any-alike (λ (x : Section). eqZ (x .number) number) (numbered (b .sections .count) (b .sections .numbers)) (b .sections) (λ k. refl) 0 (b .sections .count)
+module _ (l : Line) (count : ℕ) (ns : List ℤ) where
+  pub shown : {t : Bool} → lineBroken l count ≡ t → record { broken = t; shut = not t && isAmong count ns (l .opening .start .number) } ≡ seenIn l count ns
+  shown e = λ i. record { broken = sym e i; shut = not (sym e i) && isAmong count ns (l .opening .start .number) }
 
-pub seen-lent : (b : Book) → Whole (b .sections)
-    → seenIn (b .line) (b .sections .count) (b .sections .numbers) (b .sections .heights) (b .sections .distances) (b .sections .discrepancies) ≡ seenOf (standingOf b)
-unfolding seenIn broken
-seen-lent b w =
-    let s = b .sections in
-    let count = sym (from-length s 0 (s .count)) in
-    let whole : brokenBy (misfitIn (s .count) (s .heights) (s .distances) (s .discrepancies)) (b .line) (s .count) ≡ broken (standingOf b) =
-    (λ i. brokenBy (misfit-lent s w i) (b .line) (count i)) in
-    λ i. record { broken = whole i; shut = not (whole i) && among-sections b (b .line .start .number) i }
+  module _ {x : Seen} (e : x ≡ seenIn l count ns) where
+    pub saw-broken : {t : Bool} → x .broken ≡ t → lineBroken l count ≡ t
+    saw-broken h = sym (ap (λ (y : Seen). y .broken) e) ∙ h
 
--- ---- the two answers
+    pub saw-shut : x .broken ≡ false → x .shut ≡ isShut (numbersIn l count ns)
+    saw-shut h = ap (λ (y : Seen). y .shut) e ∙ ap (λ (t : Bool). not t && isAmong count ns (l .opening .start .number)) (saw-broken h)
 
-module _ (v : Standing) (x : Seen) (e : x ≡ seenOf v) where
-  pub saw-broken : {t : Bool} → x .broken ≡ t → broken v ≡ t
-  saw-broken h = sym (ap (λ (y : Seen). y .broken) e) ∙ h
+-- ---- 20, by the count
 
-  pub saw-shut : x .broken ≡ false → x .shut ≡ isShut v
-  saw-shut h = ap (λ (y : Seen). y .shut) e ∙ ap (λ (t : Bool). not t && isShut v) (saw-broken h)
+pub counted-broken : (l : Line) (s : Sections) → lineBroken l (length (sectionsOf s)) ≡ lineBroken l (s .count)
+counted-broken l s = ap (lineBroken l) (from-length s 0 (s .count))
 
--- ---- of a line and lent lists
+-- ---- of the book and of its numbers
 
-module _ (l : Line) (count : ℕ) (ns hs ds es : List ℤ) where
-  pub shown-broken : brokenBy (misfitIn count hs ds es) l count ≡ true → seenIn l count ns hs ds es ≡ record { broken = true; shut = false }
-  unfolding seenIn
-  shown-broken e = λ i. record { broken = e i; shut = not (e i) && isAmong count ns (l .start .number) }
+-- the benchmarks of the sections are told by the numbers
+numbers-alike : (s t : Sections) → s .numbers ≡ t .numbers → (k n : ℕ) → map (λ (x : Section). x .number) (sectionsFrom s k n) ≡ map (λ (x : Section). x .number) (sectionsFrom t k n)
+unfolding sectionsFrom
+numbers-alike s t e k zero = refl
+numbers-alike s t e k (suc n) = λ i. getD (e i) k (pos 0) ∷ numbers-alike s t e (k + 1) n i
 
-  pub shown-whole : brokenBy (misfitIn count hs ds es) l count ≡ false → seenIn l count ns hs ds es ≡ record { broken = false; shut = isAmong count ns (l .start .number) }
-  unfolding seenIn
-  shown-whole e = λ i. record { broken = e i; shut = not (e i) && isAmong count ns (l .start .number) }
+module _ (b : Book) where
+  abbrev lent : Sections
+  lent = numbered (b .sections .count) (b .sections .numbers)
 
-  -- an unbroken book has no more than 64 sections
-  pub few : brokenBy (misfitIn count hs ds es) l count ≡ false → count ≤ 64
-  few e =
-      let ss = sectionsOf (lent count hs ds es) in
-      let short = not (leb count (length hs)) || not (leb count (length ds)) || not (leb count (length es)) in
-      let fit = or-r short (misfit ss) (or-l (short || misfit ss) (lineBroken l count) (or-l (short || misfit ss || lineBroken l count) (misplaced l count) e)) in
-      omega (arith, from-length (lent count hs ds es) 0 count, leb→le (length ss) 64 (holds (not-false (leb (length ss) 64) (or-l (not (leb (length ss) 64)) (anyOutside false ss) fit))))
+  abbrev v : Standing
+  v = standingOf b
+
+  abbrev w : Standing
+  w = numbersIn (b .line) (b .sections .count) (b .sections .numbers)
+
+  -- a number is on the line of the arrays' sections where it is among the numbers
+  on-alike : (number : ℤ) → onLine w number ≡ onLine v number
+  on-alike number = any-alike (λ (x : Section). eqZ (x .number) number) lent (b .sections) (λ k. refl) 0 (b .sections .count)
+
+  pub shut-alike : isShut w ≡ isShut v
+  shut-alike = on-alike (b .line .opening .start .number)
+
+  pub began-alike : began w ≡ began v
+  began-alike = ap (lastOf (b .line .opening .start .number)) (numbers-alike lent (b .sections) refl 0 (b .sections .count))
+
+  counted : length (w .sections) ≡ length (v .sections)
+  counted = from-length lent 0 (b .sections .count) ∙ sym (from-length (b .sections) 0 (b .sections .count))
+
+  counted-beside : length (beside (b .line) (b .sections .count) .sections) ≡ length (v .sections)
+  counted-beside = from-length (numbered (b .sections .count) []) 0 (b .sections .count) ∙ sym (from-length (b .sections) 0 (b .sections .count))
+
+  pub open-alike : (order instrument number height : ℤ)
+      → bookRefusal (beside (b .line) (b .sections .count)) (open-line order instrument number height) ≡ bookRefusal v (open-line order instrument number height)
+  unfolding bookRefusal
+  open-alike order instrument number height =
+      λ i. firstOf (inputTests (open-line order instrument number height) ++ ((20, lineBroken (b .line) (counted-beside i)) ∷ (21, not (isFresh (b .line .stage))) ∷ []))
+
+  pub station-alike : (kb kf : ℤ) (readings : List (List ℤ)) → bookRefusal w (station kb kf readings) ≡ bookRefusal v (station kb kf readings)
+  unfolding bookRefusal
+  station-alike kb kf readings =
+      let c = station kb kf readings in
+      λ i. firstOf (inputTests c ++ ((20, lineBroken (b .line) (counted i)) ∷ stationTests (b .line) (shut-alike i) kb (figuresOf (stationOf kb kf readings))))
+
+  pub drop-alike : bookRefusal (beside (b .line) (b .sections .count)) drop-run ≡ bookRefusal v drop-run
+  unfolding bookRefusal
+  drop-alike = λ i. firstOf ((20, lineBroken (b .line) (counted-beside i)) ∷ (21, not (isOpen (b .line .stage))) ∷ [])
+
+  pub end-alike : (number : ℤ) → bookRefusal w (end-run number) ≡ bookRefusal v (end-run number)
+  unfolding bookRefusal
+  end-alike number =
+      let empty : isEmpty (w .sections) ≡ isEmpty (v .sections) = empty-count lent ∙ sym (empty-count (b .sections)) in
+      let l = b .line in
+      λ i.
+      firstOf (inputTests (end-run number)
+      ++ ((20, lineBroken l (counted i))
+      ∷ (21, not (isOpen (l .stage)) || shut-alike i)
+      ∷ (29, eqb (l .present .count) 0 || eqb (l .present .count % 2) 1)
+      ∷ (31, not (isReturn (l .waiting)) && leb 64 (counted i))
+      ∷ (30, not (cond (isReturn (l .waiting)) (eqZ number (began-alike i)) (not (on-alike number i) && not (eqZ number (l .opening .start .number) && empty i))))
+      ∷ (32, outwardOrReturn (l .waiting) false (λ outward run. not (discrepancyWithin (termsOf (l .opening .order) .apart) (bothWays outward run (l .present))))) ∷ []))

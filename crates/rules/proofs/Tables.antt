@@ -1,22 +1,25 @@
 -- The tables of the calls' tests: what their numbers satisfy, computed for every standing list at once, a line for each call; and that a call that is
 -- taken fails every test.
 use mathlib.Core.Path.{_≡_, refl, sym, _∙_}
-use mathlib.Core.Bool.{Bool, true, false, not}
+use mathlib.Core.Bool.{Bool, true, false, not, _&&_}
 use mathlib.Core.List.{List, _∷_, _++_}
 use Prim.Native.Nat.{ℕ}
 use borrow.Author.Needs.{needs}
 use lib.Dec.{leb, eqb}
+use lib.ListN.{length}
 use lib.IntN.{ℤ}
+use Rattle.adjust.specs.Sections.{misfit}
+use Rattle.numbers.proofs.Tests.{or-r}
 use Rattle.numbers.proofs.Tables.{eachNumber, numbered, testOf, failed, rises}
-use Rattle.rules.specs.Standing.{Standing, broken}
-use Rattle.rules.specs.Rules.{Call, open-line, station, end-run, drop-run, drop-section, close-line, inputTests, stateTests, refusal, bookRefusal, before30}
+use Rattle.rules.specs.Standing.{Standing, lineBroken}
+use Rattle.rules.specs.Rules.{Call, open-line, station, end-run, drop-run, drop-section, close-line, isClosing, broken, inputTests, stateTests, refusal, bookRefusal, before30}
 
 -- a call's tests, and those of a book, which also tests for 20
 abbrev pub tests : Standing → Call → List (ℕ × Bool)
 tests v c = inputTests c ++ stateTests v c
 
 abbrev pub bookTests : Standing → Call → List (ℕ × Bool)
-bookTests v c = inputTests c ++ ((20, broken v) ∷ stateTests v c)
+bookTests v c = inputTests c ++ ((20, broken v c) ∷ stateTests v c)
 
 pub record Tables (v : Standing) (c : Call) : Type 0 where
   -- no number is 0
@@ -24,7 +27,7 @@ pub record Tables (v : Standing) (c : Call) : Type 0 where
   pub all : numbered (tests v c) ≡ true
   pub book : numbered (bookTests v c) ≡ true
   -- 20 is in a book's table alone
-  pub twenty : testOf 20 (bookTests v c) ≡ broken v
+  pub twenty : testOf 20 (bookTests v c) ≡ broken v c
   pub no-twenty : eachNumber (λ n. not (eqb n 20)) (tests v c) ≡ true
   pub two-digits : eachNumber (λ n. leb n 99) (tests v c) ≡ true
   -- the numbers rise, 31 before 30
@@ -52,5 +55,8 @@ module _ (v : Standing) (c : Call) where
   unfolding bookRefusal
   book-fails e = failed (bookTests v c) (tables v c .book) e
 
-  pub not-broken : bookRefusal v c ≡ 0 → broken v ≡ false
+  pub not-broken : bookRefusal v c ≡ 0 → broken v c ≡ false
   not-broken e = sym (tables v c .twenty) ∙ book-fails e 20
+
+  pub line-whole : bookRefusal v c ≡ 0 → lineBroken (v .line) (length (v .sections)) ≡ false
+  line-whole e = or-r (isClosing c && misfit (v .sections)) (lineBroken (v .line) (length (v .sections))) (not-broken e)

@@ -1,4 +1,4 @@
--- An unbroken book: what the test of 20 leaves to know of its counts and sums.
+-- An unbroken line: what the test of 20 leaves to know of its counts and sums.
 use mathlib.Core.Path.{_≡_, refl, sym, ap, _∙_}
 use mathlib.Core.Bool.{Bool, true, false, not, _&&_, _||_}
 use mathlib.Core.List.{List, [], _∷_}
@@ -12,14 +12,14 @@ use Rattle.numbers.specs.Whole.{within, between}
 use Rattle.numbers.proofs.Tests.{holds, fails, no-true, and-l, and-r, or-l, or-r, not-false}
 use Rattle.numbers.proofs.Sizes.{between-size, within-size}
 use Rattle.adjust.specs.declared.Sections.{Sections}
-use Rattle.adjust.specs.Sections.{sectionsFrom, sectionsOf, anyOutside, misfit, heightInRange}
-use Rattle.adjust.proofs.Lists.{from-length}
+use Rattle.adjust.specs.Sections.{sectionsFrom, sectionsOf, heightInRange}
+use Rattle.adjust.specs.Terms.{termsOf}
 use Rattle.rules.specs.declared.Run.{Run}
 use Rattle.rules.specs.declared.Waiting.{Waiting}
 use Rattle.rules.specs.declared.Waiting.the-variants.{Nothing, Outward}
-use Rattle.rules.specs.declared.Book.{Book}
-use Rattle.rules.specs.Bounds.{SmallRun, SmallRuns}
-use Rattle.rules.specs.Standing.{standingOf, isFresh, isEmpty, isReturn, twoWay, runFits, waitingBroken, lineBroken, misplaced, broken, mostG, mostS, mostDifference}
+use Rattle.rules.specs.declared.Line.{Line}
+use Rattle.rules.specs.code.Bounds.{SmallRun, SmallRuns}
+use Rattle.rules.specs.Standing.{isFresh, isClosed, isEmpty, isReturn, runFits, waitingBroken, misplaced, lineBroken, mostG, mostS, mostDifference}
 
 pub small-run : (u : Run) → runFits u ≡ true → SmallRun u
 small-run u e =
@@ -44,41 +44,41 @@ small-waiting Nothing count e = tt
 small-waiting (Outward number run) count e =
     (small-run run (not-false (runFits run) (or-l (not (runFits run)) (leb 64 count) e)), nleb→lt 64 count (fails (or-r (not (runFits run)) (leb 64 count) e)))
 
-pub record Unbroken (b : Book) : Type 0 where
-  pub few : b .sections .count ≤ 64
-  pub fit : misfit (sectionsOf (b .sections)) ≡ false
-  pub present : SmallRun (b .line .present)
-  pub waiting : SmallWaiting (b .line .waiting) (b .sections .count)
-  pub start : heightInRange (b .line .start .height) ≡ true
-  pub end : heightInRange (b .line .end) ≡ true
+-- a line beside count sections
+pub record Unbroken (l : Line) (count : ℕ) : Type 0 where
+  pub few : count ≤ 64
+  pub present : SmallRun (l .present)
+  pub waiting : SmallWaiting (l .waiting) count
+  pub start : heightInRange (l .opening .start .height) ≡ true
+  pub end : heightInRange (l .end) ≡ true
+  pub placed : misplaced l count ≡ false
 
-pub unbroken : (b : Book) → broken (standingOf b) ≡ false → Unbroken b
-unfolding broken
-unbroken b e =
-    let l = b .line in
-    let ss = sectionsOf (b .sections) in
-    let n = from-length (b .sections) 0 (b .sections .count) in
-    let sums = or-l (misfit ss || lineBroken l (length ss)) (misplaced l (length ss)) e in
-    let fit = or-l (misfit ss) (lineBroken l (length ss)) sums in
-    let line = ap (λ (m : ℕ). lineBroken l m) (sym n) ∙ or-r (misfit ss) (lineBroken l (length ss)) sums in
+pub unbroken : (l : Line) (count : ℕ) → lineBroken l count ≡ false → Unbroken l count
+unfolding lineBroken
+unbroken l count e =
+    let n = not (leb count 64) in
     let u = not (runFits (l .present)) in
-    let w = waitingBroken (l .waiting) (b .sections .count) in
-    let s = not (heightInRange (l .start .height)) in
+    let w = waitingBroken (l .waiting) count in
+    let s = not (heightInRange (l .opening .start .height)) in
     let t = not (heightInRange (l .end)) in
+    let to-end = or-l (n || u || w || s || t) (misplaced l count) e in
+    let to-start = or-l (n || u || w || s) t to-end in
+    let to-waiting = or-l (n || u || w) s to-start in
+    let to-present = or-l (n || u) w to-waiting in
     record {
-      few = omega (arith, n, leb→le (length ss) 64 (holds (not-false (leb (length ss) 64) (or-l (not (leb (length ss) 64)) (anyOutside false ss) fit))));
-      fit = fit;
-      present = small-run (l .present) (not-false (runFits (l .present)) (or-l u w (or-l (u || w) s (or-l (u || w || s) t line))));
-      waiting = small-waiting (l .waiting) (b .sections .count) (or-r u w (or-l (u || w) s (or-l (u || w || s) t line)));
-      start = not-false (heightInRange (l .start .height)) (or-r (u || w) s (or-l (u || w || s) t line));
-      end = not-false (heightInRange (l .end)) (or-r (u || w || s) t line);
+      few = leb→le count 64 (holds (not-false (leb count 64) (or-l n u to-present)));
+      present = small-run (l .present) (not-false (runFits (l .present)) (or-r n u to-present));
+      waiting = small-waiting (l .waiting) count (or-r (n || u) w to-waiting);
+      start = not-false (heightInRange (l .opening .start .height)) (or-r (n || u || w) s to-start);
+      end = not-false (heightInRange (l .end)) (or-r (n || u || w || s) t to-end);
+      placed = or-r (n || u || w || s || t) (misplaced l count) e;
     }
 
 -- both runs together
-pub small-runs : (b : Book) → Unbroken b → SmallRuns (b .line .waiting) (b .line .present)
-small-runs b u = go (b .line .waiting) (u .waiting)
+pub small-runs : (l : Line) (count : ℕ) → Unbroken l count → SmallRuns (l .waiting) (l .present)
+small-runs l count u = go (l .waiting) (u .waiting)
   where
-    go : (w : Waiting) → SmallWaiting w (b .sections .count) → SmallRuns w (b .line .present)
+    go : (w : Waiting) → SmallWaiting w count → SmallRuns w (l .present)
     go Nothing h = u .present
     go (Outward number run) h = (h .0, u .present)
 
@@ -101,16 +101,24 @@ none-long : {A : Type 0} (xs : List A) → eqb (length xs) 0 ≡ true → xs ≡
 none-long [] e = refl
 none-long (x ∷ xs) e = no-true (sym (eqb·suc-zero (length xs)) ∙ e)
 
-pub fresh-none : (b : Book) → broken (standingOf b) ≡ false → isFresh (b .line .stage) ≡ true → sectionsOf (b .sections) ≡ []
-unfolding broken
-fresh-none b e f =
-    let l = b .line in
-    let ss = sectionsOf (b .sections) in
-    let none = eqb (length ss) 0 in
+pub fresh-none : {A : Type 0} (l : Line) (xs : List A) → lineBroken l (length xs) ≡ false → isFresh (l .stage) ≡ true → xs ≡ []
+fresh-none l xs e f =
+    let none = eqb (length xs) 0 in
     let idle = eqb (l .present .count) 0 in
     let back = isReturn (l .waiting) in
     let nothing = none && idle && not back in
-    let placed = or-r (misfit ss || lineBroken l (length ss)) (misplaced l (length ss)) e in
-    let fresh = or-l (isFresh (l .stage) && not nothing) (back && not (twoWay (l .order))) placed in
+    let stray = back && not (termsOf (l .opening .order) .double) in
+    let fresh = or-l (isFresh (l .stage) && not nothing) stray (or-l (isFresh (l .stage) && not nothing || stray) (isClosed (l .stage) && eqb (length xs) 0) (unbroken l (length xs) e .placed)) in
     let held = not-false nothing (ap (λ (t : Bool). t && not nothing) (sym f) ∙ fresh) in
-    none-long ss (and-l none idle (and-l (none && idle) (not back) held))
+    none-long xs (and-l none idle (and-l (none && idle) (not back) held))
+
+-- a closed line has a section
+pub closed-some : {A : Type 0} (l : Line) (xs : List A) → misplaced l (length xs) ≡ false → isClosed (l .stage) ≡ true → isEmpty xs ≡ false
+closed-some l xs e f =
+    let nothing = eqb (length xs) 0 && eqb (l .present .count) 0 && not (isReturn (l .waiting)) in
+    let none = or-r ((isFresh (l .stage) && not nothing) || (isReturn (l .waiting) && not (termsOf (l .opening .order) .double))) (isClosed (l .stage) && eqb (length xs) 0) e in
+    some xs (ap (λ (t : Bool). t && eqb (length xs) 0) (sym f) ∙ none)
+  where
+    some : {A : Type 0} (ys : List A) → eqb (length ys) 0 ≡ false → isEmpty ys ≡ false
+    some [] h = h
+    some (y ∷ ys) h = refl

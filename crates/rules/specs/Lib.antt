@@ -1,4 +1,4 @@
 pub mod Standing
 pub mod Rules
-pub mod Seen
-pub mod Bounds
+pub mod Records
+pub mod code

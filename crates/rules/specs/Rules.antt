@@ -1,6 +1,6 @@
 -- The rules: each call's tests, each beside its refusal number and in the order in which they are made, and what a call that is taken leaves
 -- (document 01, 'Runs, sections and the standing list' and the two lists of refusals).
-use mathlib.Core.Bool.{Bool, false, not, cond, _&&_, _||_}
+use mathlib.Core.Bool.{Bool, true, false, not, cond, _&&_, _||_}
 use mathlib.Core.List.{List, [], _∷_, _++_}
 use Prim.Native.Nat.{ℕ, _%_}
 use lib.ListN.{length}
@@ -16,15 +16,20 @@ use Rattle.station.specs.declared.Instrument.{Instrument}
 use Rattle.station.specs.declared.Instrument.the-variants.{Ds3, Ds1}
 use Rattle.station.specs.declared.Figures.{Figures}
 use Rattle.station.specs.Station.{stationOf, figuresOf, limitsOf, readingTests, limitTests}
+use Rattle.adjust.specs.declared.Opening.{Opening}
 use Rattle.adjust.specs.declared.Section.{Section}
-use Rattle.adjust.specs.Sections.{heightInRange}
-use Rattle.adjust.specs.Line.{lineLength, closure}
+use Rattle.adjust.specs.Sections.{misfit, heightInRange}
+use Rattle.adjust.specs.declared.Totals.{Totals}
+use Rattle.adjust.specs.declared.terms.Root.{Root}
+use Rattle.adjust.specs.declared.terms.Terms.{Terms}
+use Rattle.adjust.specs.Terms.{termsOf}
+use Rattle.adjust.specs.Line.{totals}
 use Rattle.rules.specs.declared.Stage.the-variants.{Open, Closed}
 use Rattle.rules.specs.declared.Run.{Run}
 use Rattle.rules.specs.declared.Waiting.{Waiting}
 use Rattle.rules.specs.declared.Waiting.the-variants.{Nothing, Outward}
 use Rattle.rules.specs.declared.Line.{Line}
-use Rattle.rules.specs.Standing.{Standing, isFresh, isOpen, isEmpty, onLine, isShut, began, outwardOrReturn, isReturn, noRun, withStation, oneWay, bothWays, twoWay, broken}
+use Rattle.rules.specs.Standing.{Standing, isFresh, isOpen, isClosed, isEmpty, onLine, isShut, began, outwardOrReturn, isReturn, noRun, withStation, oneWay, bothWays, lineBroken}
 
 -- open: order, instrument, start number and height; station: the constants and the readings, back and fore; end run: the benchmark's number;
 -- close: the last number and the end height
@@ -57,21 +62,19 @@ outOfTurn l kb =
 abbrev pub numberAllowed : Standing → ℤ → Bool
 numberAllowed v number =
     cond (isReturn (v .line .waiting)) (eqZ number (began v))
-    (not (onLine v number) && not (eqZ number (v .line .start .number) && isEmpty (v .sections)))
+    (not (onLine v number) && not (eqZ number (v .line .opening .start .number) && isEmpty (v .sections)))
 
--- D within 12 √km
-abbrev pub discrepancyWithin : Section → Bool
-discrepancyWithin x = isWithin 625 (x .discrepancy) 18 (x .distance)
+-- D within a root of R
+abbrev pub discrepancyWithin : Root → Section → Bool
+discrepancyWithin root x = isWithin (root .a) (x .discrepancy) (root .b) (x .distance)
 
--- 150 and 80 km, for a loop 200 and 100 km, in half dm
-abbrev pub lengthLimit : Order → Bool → ℤ
-lengthLimit Third loop = cond loop (pos 4000000) (pos 3000000)
-lengthLimit Fourth loop = cond loop (pos 2000000) (pos 1600000)
+-- the longest line, or the longest loop, in half dm
+abbrev pub lengthLimit : Terms → Bool → ℤ
+lengthLimit terms loop = cond loop (terms .circuit) (terms .longest)
 
--- W within 12 √km and 20 √km
-abbrev pub closureWithin : Order → ℤ → ℤ → Bool
-closureWithin Third w l = isWithin 625 w 72 l
-closureWithin Fourth w l = isWithin 25 w 8 l
+-- W within its root of L
+abbrev pub closureWithin : Terms → ℤ → ℤ → Bool
+closureWithin terms w l = isWithin (terms .closing .a) w (terms .closing .b) l
 
 -- ---- the tests
 
@@ -87,36 +90,61 @@ inputTests drop-section = []
 inputTests (close-line number end) = (4, not (numberInRange number)) ∷ (5, not (heightInRange end)) ∷ []
 
 -- of a line between its start and the end height: its length and its closure
+abbrev pub totalTests : Terms → Bool → Totals → List (ℕ × Bool)
+totalTests terms loop t = (35, not (leZ (t .distance) (lengthLimit terms loop))) ∷ (36, not (closureWithin terms (t .closure) (t .distance))) ∷ []
+
 abbrev pub lineTests : Standing → ℤ → List (ℕ × Bool)
-lineTests v end =
-    (35, not (leZ (lineLength (v .sections)) (lengthLimit (v .line .order) (isShut v))))
-    ∷ (36, not (closureWithin (v .line .order) (closure (v .line .start .height) end (v .sections)) (lineLength (v .sections)))) ∷ []
+lineTests v end = totalTests (termsOf (v .line .opening .order)) (isShut v) (totals (v .line .opening .start .height) end (v .sections))
 
 -- of a station with the figures f, whose back staff has the constant kb
-abbrev pub stationTests : Standing → ℤ → Figures → List (ℕ × Bool)
-stationTests v kb f =
-    (21, not (isOpen (v .line .stage)) || isShut v)
-    ∷ (22, leb 200 (v .line .present .count))
-    ∷ (23, outOfTurn (v .line) kb)
-    ∷ limitTests (limitsOf (v .line .order) (v .line .instrument)) (v .line .present .difference) f
+abbrev pub stationTests : Line → Bool → ℤ → Figures → List (ℕ × Bool)
+stationTests l shut kb f =
+    (21, not (isOpen (l .stage)) || shut)
+    ∷ (22, leb 200 (l .present .count))
+    ∷ (23, outOfTurn l kb)
+    ∷ limitTests (limitsOf (l .opening .order) (l .opening .instrument)) (l .present .difference) f
+
+-- and those that a book makes of it, which also tests for 20
+abbrev pub bookStationTests : Standing → ℤ → Figures → List (ℕ × Bool)
+bookStationTests v kb f = (20, lineBroken (v .line) (length (v .sections))) ∷ stationTests (v .line) (isShut v) kb f
 
 -- what the standing list causes
 abbrev pub stateTests : Standing → Call → List (ℕ × Bool)
 stateTests v (open-line order instrument number height) = (21, not (isFresh (v .line .stage))) ∷ []
-stateTests v (station kb kf readings) = stationTests v kb (figuresOf (stationOf kb kf readings))
+stateTests v (station kb kf readings) = stationTests (v .line) (isShut v) kb (figuresOf (stationOf kb kf readings))
 stateTests v (end-run number) =
     (21, not (isOpen (v .line .stage)) || isShut v)
     ∷ (29, eqb (v .line .present .count) 0 || eqb (v .line .present .count % 2) 1)
     ∷ (31, not (isReturn (v .line .waiting)) && leb 64 (length (v .sections)))
     ∷ (30, not (numberAllowed v number))
-    ∷ (32, outwardOrReturn (v .line .waiting) false (λ outward run. not (discrepancyWithin (bothWays outward run (v .line .present))))) ∷ []
+    ∷ (32, outwardOrReturn (v .line .waiting) false (λ outward run. not (discrepancyWithin (termsOf (v .line .opening .order) .apart) (bothWays outward run (v .line .present))))) ∷ []
 stateTests v drop-run = (21, not (isOpen (v .line .stage))) ∷ []
 stateTests v drop-section = (21, not (isOpen (v .line .stage))) ∷ []
 stateTests v (close-line number end) =
     (21, not (isOpen (v .line .stage)))
     ∷ (33, not (eqb (v .line .present .count) 0) || isReturn (v .line .waiting) || isEmpty (v .sections))
-    ∷ (34, not (eqZ number (began v)) || (isShut v && not (eqZ end (v .line .start .height))))
+    ∷ (34, not (eqZ number (began v)) || (isShut v && not (eqZ end (v .line .opening .start .height))))
     ∷ lineTests v end
+
+abbrev pub isClosing : Call → Bool
+isClosing (open-line order instrument number height) = false
+isClosing (station kb kf readings) = false
+isClosing (end-run number) = false
+isClosing drop-run = false
+isClosing drop-section = false
+isClosing (close-line number end) = true
+
+-- refusal 20, by what is read: the line, or all sections too
+abbrev pub brokenIn : Bool → Standing → Bool
+brokenIn sections v = (sections && misfit (v .sections)) || lineBroken (v .line) (length (v .sections))
+
+-- a closing reads them
+abbrev pub broken : Standing → Call → Bool
+broken v c = brokenIn (isClosing c) v
+
+-- the tests of asking for the figures of a closed line
+abbrev pub figuresTests : Standing → List (ℕ × Bool)
+figuresTests v = (20, brokenIn true v) ∷ (21, not (isClosed (v .line .stage))) ∷ []
 
 -- the number that the rules give, 0 where the call is taken
 abbrev pub refusal : Standing → Call → ℕ
@@ -124,7 +152,7 @@ refusal v c = firstOf (inputTests c ++ stateTests v c)
 
 -- and that a book gives, which also tests for 20
 unfoldable pub bookRefusal : Standing → Call → ℕ
-bookRefusal v c = firstOf (inputTests c ++ ((20, broken v) ∷ stateTests v c))
+bookRefusal v c = firstOf (inputTests c ++ ((20, broken v c) ∷ stateTests v c))
 
 -- the order of the numbers: as they stand, but 31 before 30
 abbrev pub before30 : ℕ → ℕ
@@ -137,9 +165,7 @@ abbrev pub withRuns : Line → Waiting → Run → Line
 withRuns l waiting present =
     record {
       stage = l .stage;
-      order = l .order;
-      instrument = l .instrument;
-      start = l .start;
+      opening = l .opening;
       end = l .end;
       waiting = waiting;
       present = present;
@@ -148,41 +174,34 @@ withRuns l waiting present =
 abbrev pub withSection : Standing → Section → Standing
 withSection v x = record { line = withRuns (v .line) Nothing noRun; sections = v .sections ++ (x ∷ []) }
 
--- a return finishes the section, under the waiting number; an outward run waits, or is a section where the order is levelled one way
+-- a return finishes the section, under the waiting number; an outward run waits, or is a section where sections are levelled one way
 abbrev pub runEnded : Standing → ℤ → Standing
 runEnded v number =
     outwardOrReturn (v .line .waiting)
-    (cond (twoWay (v .line .order))
+    (cond (termsOf (v .line .opening .order) .double)
     (record { line = withRuns (v .line) (Outward number (v .line .present)) noRun; sections = v .sections })
     (withSection v (oneWay number (v .line .present))))
     (λ outward run. withSection v (bothWays outward run (v .line .present)))
 
-abbrev pub opened : ℤ → ℤ → ℤ → ℤ → Line
-opened order instrument number height =
-    record {
-      stage = Open;
-      order = orderOf order;
-      instrument = instrumentOf instrument;
-      start = record { number = number; height = height };
-      end = pos 0;
-      waiting = Nothing;
-      present = noRun;
-    }
+-- an open line with nothing in it
+abbrev pub begun : Opening → Line
+begun o = record { stage = Open; opening = o; end = pos 0; waiting = Nothing; present = noRun }
+
+abbrev pub openingOf : ℤ → ℤ → ℤ → ℤ → Opening
+openingOf order instrument number height = record { order = orderOf order; instrument = instrumentOf instrument; start = record { number = number; height = height } }
 
 abbrev pub closedAt : Line → ℤ → Line
 closedAt l end =
     record {
       stage = Closed;
-      order = l .order;
-      instrument = l .instrument;
-      start = l .start;
+      opening = l .opening;
       end = end;
       waiting = l .waiting;
       present = l .present;
     }
 
 abbrev pub taken : Standing → Call → Standing
-taken v (open-line order instrument number height) = record { line = opened order instrument number height; sections = [] }
+taken v (open-line order instrument number height) = record { line = begun (openingOf order instrument number height); sections = [] }
 taken v (station kb kf readings) =
     record {
       line = withRuns (v .line) (v .line .waiting) (withStation (v .line .present) (figuresOf (stationOf kb kf readings)) kf);

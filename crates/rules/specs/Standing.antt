@@ -2,15 +2,13 @@
 use mathlib.Core.Bool.{Bool, true, false, not, _&&_, _||_}
 use mathlib.Core.List.{List, [], _∷_, map}
 use Prim.Native.Nat.{ℕ, _+_}
-use lib.ListN.{length}
 use lib.Dec.{leb, eqb}
 use lib.IntN.{ℤ, pos, _+ℤ_, _-ℤ_, _*ℤ_}
 use Rattle.numbers.specs.Whole.{within, between, eqZ, anyOf, lastOf}
-use Rattle.station.specs.declared.Order.{Order}
-use Rattle.station.specs.declared.Order.the-variants.{Third, Fourth}
 use Rattle.station.specs.declared.Figures.{Figures}
 use Rattle.adjust.specs.declared.Section.{Section}
-use Rattle.adjust.specs.Sections.{sectionsOf, holding, misfit, heightInRange}
+use Rattle.adjust.specs.Sections.{sectionsOf, holding, heightInRange}
+use Rattle.adjust.specs.Terms.{termsOf}
 use Rattle.rules.specs.declared.Stage.{Stage}
 use Rattle.rules.specs.declared.Stage.the-variants.{Fresh, Open, Closed}
 use Rattle.rules.specs.declared.Run.{Run}
@@ -27,6 +25,14 @@ pub record Standing : Type 0 where
 -- what a book holds, and the book b holding v in its place
 abbrev pub standingOf : Book → Standing
 standingOf b = record { line = b .line; sections = sectionsOf (b .sections) }
+
+-- a line and the lists of its sections, which the code is lent one by one, as a book
+abbrev pub bookIn : Line → ℕ → List ℤ → List ℤ → List ℤ → List ℤ → Book
+bookIn l count ns hs ds es =
+    record { line = l; sections = record { count = count; numbers = ns; heights = hs; distances = ds; discrepancies = es } }
+
+abbrev pub standingIn : Line → ℕ → List ℤ → List ℤ → List ℤ → List ℤ → Standing
+standingIn l count ns hs ds es = standingOf (bookIn l count ns hs ds es)
 
 abbrev pub bookWith : Book → Standing → Book
 bookWith b v = record { line = v .line; sections = holding (b .sections) (v .sections) }
@@ -57,11 +63,11 @@ onLine v number = anyOf (λ (x : Section). eqZ (x .number) number) (v .sections)
 
 -- the loop is shut while a finished section carries the start number ('loop shut')
 abbrev pub isShut : Standing → Bool
-isShut v = onLine v (v .line .start .number)
+isShut v = onLine v (v .line .opening .start .number)
 
 -- the benchmark where the present section began: the last one on the line
 abbrev pub began : Standing → ℤ
-began v = lastOf (v .line .start .number) (map (λ (x : Section). x .number) (v .sections))
+began v = lastOf (v .line .opening .start .number) (map (λ (x : Section). x .number) (v .sections))
 
 -- the present run is a return where an outward run waits for one ('waiting'), and an outward run where none does: what is said of it in either case.
 -- Rules 23, 30, 31, 32 and the end of a run all go by this
@@ -97,11 +103,6 @@ abbrev pub bothWays : ℤ → Run → Run → Section
 bothWays number out back =
     record { number = number; height = out .height -ℤ back .height; distance = out .sights +ℤ back .sights; discrepancy = out .height +ℤ back .height }
 
--- the order whose sections are levelled out and back
-abbrev pub twoWay : Order → Bool
-twoWay Third = true
-twoWay Fourth = false
-
 -- ---- refusal 20
 
 -- the most of a run: |G| in half mm, s and the sum of d in dm
@@ -122,19 +123,15 @@ runFits u = leb (u .count) 200 && within (u .height) mostG && between (pos 0) (u
 abbrev pub waitingBroken : Waiting → ℕ → Bool
 waitingBroken w count = outwardOrReturn w false (λ number run. not (runFits run) || leb 64 count)
 
-abbrev pub lineBroken : Line → ℕ → Bool
-lineBroken l count =
-    not (runFits (l .present)) || waitingBroken (l .waiting) count || not (heightInRange (l .start .height)) || not (heightInRange (l .end))
-
--- a fresh book has nothing in any list, and only an order levelled out and back has a run that waits
+-- a fresh book has nothing in any list, a run waits only where sections are levelled out and back, and a closed line has a section
 abbrev pub misplaced : Line → ℕ → Bool
 misplaced l count =
     (isFresh (l .stage) && not (eqb count 0 && eqb (l .present .count) 0 && not (isReturn (l .waiting))))
-    || (isReturn (l .waiting) && not (twoWay (l .order)))
+    || (isReturn (l .waiting) && not (termsOf (l .opening .order) .double))
+    || (isClosed (l .stage) && eqb count 0)
 
--- of a line and its count of sections, by whether these are a misfit
-abbrev pub brokenBy : Bool → Line → ℕ → Bool
-brokenBy misfits l count = misfits || lineBroken l count || misplaced l count
-
-unfoldable pub broken : Standing → Bool
-broken v = brokenBy (misfit (v .sections)) (v .line) (length (v .sections))
+-- a line beside count sections; there is no place for more than 64
+unfoldable pub lineBroken : Line → ℕ → Bool
+lineBroken l count =
+    not (leb count 64) || not (runFits (l .present)) || waitingBroken (l .waiting) count || not (heightInRange (l .opening .start .height)) || not (heightInRange (l .end))
+    || misplaced l count

@@ -4,35 +4,29 @@ ghost use mathlib.Core.Bool.{true, false};
 ghost use Rattle.numbers.specs.Tables.{firstOf};
 ghost use Rattle.adjust.specs.Sections.{sectionsOf, heightInRange};
 ghost use Rattle.adjust.specs.Frames.{figuresFit};
-ghost use Rattle.rules.specs.Standing.{standingOf, isShut, broken};
-ghost use Rattle.rules.specs.Rules.{close-line, lengthLimit, closureWithin, lineTests, inputTests, stateTests, bookRefusal};
-use super::Book;
+ghost use Rattle.rules.specs.Standing.{standingIn, isShut};
+ghost use Rattle.rules.specs.Rules.{close-line, broken, lengthLimit, totalTests, lineTests, figuresTests, inputTests, stateTests, bookRefusal};
+use super::Line;
 use super::refusals::number_in_range;
 use super::refusals::pick;
 use super::state::began_at;
+use super::state::is_closed;
 use super::state::is_open;
 use super::state::is_return;
+use super::state::line_broken;
 use super::state::look;
+use adjust::LineTotals;
+use adjust::Sections;
+use adjust::Totals;
+use adjust::terms::Terms;
+use adjust::terms::terms_of;
 use roots::limits::within;
-use station::Order;
 
-// The longest line of an order, in half dm.
-fn length_limit(order: Order, shut: bool) -> i64
-    ensures { λ r. ⌜ r ≡ lengthLimit order shut ⌝ }
+// The longest line, or the longest loop, in half dm.
+fn length_limit(terms: Terms, shut: bool) -> i64
+    ensures { λ r. ⌜ r ≡ lengthLimit terms shut ⌝ }
 {
-    match order {
-        Order::Third => { if shut { 4000000 } else { 3000000 } }
-        Order::Fourth => { if shut { 2000000 } else { 1600000 } }
-    }
-}
-
-fn closure_within(order: Order, w: i64, l: i64) -> bool
-    ensures { λ r. ⌜ r ≡ closureWithin order w l ⌝ }
-{
-    match order {
-        Order::Third => within(625, w, 72, l),
-        Order::Fourth => within(25, w, 8, l),
-    }
+    if shut { terms.circuit } else { terms.longest }
 }
 
 fn close_input(number: i64, end: i64) -> u8
@@ -42,58 +36,109 @@ fn close_input(number: i64, end: i64) -> u8
     pick(!number_in_range(number), 4, five)
 }
 
-// The refusal of a line with sections by its length and its closure: 35 or 36, or 0.
-fn line_refusal(b: Book, end: i64, shut: bool) -> u8
-    requires { ⌜ (figuresFit (b .line .start .height) end (sectionsOf (b .sections)) ≡ true) × (shut ≡ isShut (standingOf b)) ⌝ }
-    ensures { λ r. ⌜ r ≡ firstOf (lineTests (standingOf b) end) ⌝ }
+// The refusal of a line by its length and its closure: 35 or 36, or 0.
+fn limit_refusal(terms: Terms, shut: bool, t: Totals) -> u8
+    ensures { λ r. ⌜ r ≡ firstOf (totalTests terms shut t) ⌝ }
 {
-    let line = b.line;
-    let sections = b.sections;
-    let order = line.order;
-    let t = adjust::totals_of(line.start.height, end, sections);
-    let limit = length_limit(order, shut);
-    let w = pick(!closure_within(order, t.closure, t.distance), 36, 0);
+    let limit = length_limit(terms, shut);
+    let root = terms.closing;
+    let w = pick(!within(root.a, t.closure, root.b, t.distance), 36, 0);
     pick(!(t.distance <= limit), 35, w)
 }
 
-fn close_state(b: Book, shut: bool, number: i64, end: i64) -> u8
-    requires { ⌜ ((broken (standingOf b) ≡ false) × (shut ≡ isShut (standingOf b))) × (heightInRange end ≡ true) ⌝ }
-    ensures { λ r. ⌜ r ≡ firstOf (stateTests (standingOf b) (close-line number end)) ⌝ }
+// The same of a line with sections. There are totals, since the figures fit.
+fn line_refusal(line: Line, sections: Sections, end: i64, shut: bool) -> u8
+    requires { ⌜ (figuresFit (line .opening .start .height) end (sectionsOf sections) ≡ true) × (shut ≡ isShut (record { line = line; sections = sectionsOf sections })) ⌝ }
+    ensures { λ r. ⌜ r ≡ firstOf (lineTests (record { line = line; sections = sectionsOf sections }) end) ⌝ }
 {
-    let line = b.line;
-    let sections = b.sections;
+    let opening = line.opening;
+    let order = opening.order;
+    let terms = terms_of(order);
+    let answer = adjust::totals_of(line.opening.start.height, end, sections);
+    match answer {
+        LineTotals::Totalled(t) => limit_refusal(terms, shut, t),
+        LineTotals::NotTotalled => 20,
+    }
+}
+
+fn close_state<'a>(
+    line: Line,
+    count: usize,
+    numbers: &'a [i64; 64],
+    heights: &'a [i64; 64],
+    distances: &'a [i64; 64],
+    discrepancies: &'a [i64; 64],
+    shut: bool,
+    number: i64,
+    end: i64,
+) -> u8
+    requires { ⌜ ((broken (standingIn line count (now numbers) (now heights) (now distances) (now discrepancies)) (close-line number end) ≡ false)
+        × (shut ≡ isShut (standingIn line count (now numbers) (now heights) (now distances) (now discrepancies)))) × (heightInRange end ≡ true) ⌝ }
+    ensures { λ r. ⌜ r ≡ firstOf (stateTests (standingIn line count (now (numbers .entry)) (now (heights .entry)) (now (distances .entry)) (now (discrepancies .entry))) (close-line number end)) ⌝ }
+{
     let stage = line.stage;
     let waiting = line.waiting;
     if !is_open(stage) {
         return 21;
     }
-    if !(line.present.count == 0) | is_return(waiting) | (sections.count == 0) {
+    if !(line.present.count == 0) | is_return(waiting) | (count == 0) {
         return 33;
     }
-    let began = began_at(line.start.number, sections);
-    if !(number == began) | (shut & !(end == line.start.height)) {
+    let began = began_at(line.opening.start.number, count, numbers);
+    if !(number == began) | (shut & !(end == line.opening.start.height)) {
         return 34;
     }
-    line_refusal(b, end, shut)
+    // a closing is made once a line: its sections may be copied
+    let sections = Sections {
+        count: count,
+        numbers: *numbers,
+        heights: *heights,
+        distances: *distances,
+        discrepancies: *discrepancies,
+    };
+    line_refusal(line, sections, end, shut)
 }
 
-pub fn close_refusal(b: Book, number: i64, end: i64) -> u8
-    ensures { λ r. ⌜ r ≡ bookRefusal (standingOf b) (close-line number end) ⌝ }
+pub fn close_refusal<'a>(
+    line: Line,
+    count: usize,
+    numbers: &'a [i64; 64],
+    heights: &'a [i64; 64],
+    distances: &'a [i64; 64],
+    discrepancies: &'a [i64; 64],
+    number: i64,
+    end: i64,
+) -> u8
+    ensures { λ r. ⌜ r ≡ bookRefusal (standingIn line count (now (numbers .entry)) (now (heights .entry)) (now (distances .entry)) (now (discrepancies .entry))) (close-line number end) ⌝ }
 {
     let input = close_input(number, end);
     if input != 0 {
         return input;
     }
-    let seen = look(
-        b.line,
-        b.sections.count,
-        &b.sections.numbers,
-        &b.sections.heights,
-        &b.sections.distances,
-        &b.sections.discrepancies,
-    );
-    if seen.broken {
+    let misfit = adjust::table::misfits(count, heights, distances, discrepancies);
+    let seen = look(line, count, numbers);
+    if misfit | seen.broken {
         return 20;
     }
-    close_state(b, seen.shut, number, end)
+    close_state(
+        line,
+        count,
+        numbers,
+        heights,
+        distances,
+        discrepancies,
+        seen.shut,
+        number,
+        end,
+    )
+}
+
+// The refusal of asking for the figures of a closed line: 20 or 21, or 0.
+pub fn figures_refusal(line: Line, s: Sections) -> u8
+    ensures { λ r. ⌜ r ≡ firstOf (figuresTests (record { line = line; sections = sectionsOf s })) ⌝ }
+{
+    let stage = line.stage;
+    let misfit = adjust::table::misfits(s.count, &s.heights, &s.distances, &s.discrepancies);
+    let shut = pick(!is_closed(stage), 21, 0);
+    pick(misfit | line_broken(line, s.count), 20, shut)
 }

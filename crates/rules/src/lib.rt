@@ -1,8 +1,6 @@
 // The record of a levelling line, and what the rules refuse of each call.
-use adjust::Benchmark;
+use adjust::Opening;
 use adjust::Sections;
-use station::Instrument;
-use station::Order;
 
 pub mod closing;
 pub mod refusals;
@@ -32,9 +30,7 @@ pub enum Waiting {
 // All of a line but its finished sections. The end height is 0 until the line is closed.
 pub struct Line {
     pub stage: Stage,
-    pub order: Order,
-    pub instrument: Instrument,
-    pub start: Benchmark,
+    pub opening: Opening,
     pub end: i64,
     pub waiting: Waiting,
     pub present: Run,

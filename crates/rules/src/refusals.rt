@@ -1,14 +1,13 @@
 // The refusals of the calls: what the input alone causes, a station's apart, then 20, then what the book's state causes, the first that applies.
 ghost use mathlib.Core.Path.{_≡_};
 ghost use mathlib.Core.Bool.{false, not, cond};
-ghost use mathlib.Core.List.{_∷_};
 ghost use Prim.Native.Nat.{_≤_};
 ghost use Rattle.numbers.specs.Whole.{eqZ};
 ghost use Rattle.numbers.specs.Tables.{firstOf};
-ghost use Rattle.rules.specs.Standing.{standingOf, broken, isShut, outwardOrReturn, bothWays};
-ghost use Rattle.rules.specs.Bounds.{SmallRuns};
-ghost use Rattle.rules.specs.Rules.{open-line, end-run, drop-run, numberInRange, numberAllowed, discrepancyWithin, outOfTurn, inputTests, stationTests, stateTests, bookRefusal};
-use super::Book;
+ghost use Rattle.rules.specs.Standing.{isShut, outwardOrReturn, bothWays};
+ghost use Rattle.rules.specs.code.Seen.{numbersIn, beside};
+ghost use Rattle.rules.specs.code.Bounds.{SmallRuns};
+ghost use Rattle.rules.specs.Rules.{open-line, end-run, drop-run, numberInRange, numberAllowed, discrepancyWithin, outOfTurn, inputTests, stationTests, bookStationTests, stateTests, bookRefusal};
 use super::Line;
 use super::Run;
 use super::Waiting;
@@ -16,8 +15,11 @@ use super::state::began_at;
 use super::state::is_fresh;
 use super::state::is_open;
 use super::state::is_return;
+use super::state::line_broken;
 use super::state::look;
 use super::state::on_line;
+use adjust::terms::Root;
+use adjust::terms::terms_of;
 use roots::limits::within;
 use station::Figures;
 
@@ -46,25 +48,23 @@ fn open_input(order: i64, instrument: i64, number: i64, height: i64) -> u8
     pick(!(orders & instruments), 3, four)
 }
 
-pub fn open_refusal(b: Book, order: i64, instrument: i64, number: i64, height: i64) -> u8
-    ensures { λ r. ⌜ r ≡ bookRefusal (standingOf b) (open-line order instrument number height) ⌝ }
+pub fn open_refusal(
+    line: Line,
+    count: usize,
+    order: i64,
+    instrument: i64,
+    number: i64,
+    height: i64,
+) -> u8
+    ensures { λ r. ⌜ r ≡ bookRefusal (beside line count) (open-line order instrument number height) ⌝ }
 {
     let input = open_input(order, instrument, number, height);
     if input != 0 {
         return input;
     }
-    let seen = look(
-        b.line,
-        b.sections.count,
-        &b.sections.numbers,
-        &b.sections.heights,
-        &b.sections.distances,
-        &b.sections.discrepancies,
-    );
-    if seen.broken {
+    if line_broken(line, count) {
         return 20;
     }
-    let line = b.line;
     let stage = line.stage;
     pick(!is_fresh(stage), 21, 0)
 }
@@ -91,15 +91,14 @@ fn out_of_turn(line: Line, kb: i64) -> bool
     kb != line.present.last
 }
 
-// The refusal that the state of a book causes, 20 apart, to a station with the figures f.
-fn station_state(b: Book, shut: bool, kb: i64, f: Figures) -> u8
-    requires { ⌜ shut ≡ isShut (standingOf b) ⌝ }
-    ensures { λ r. ⌜ r ≡ firstOf (stationTests (standingOf b) kb f) ⌝ }
+// The refusal that the line causes to a station with the figures f.
+fn station_state(line: Line, shut: bool, kb: i64, f: Figures) -> u8
+    ensures { λ r. ⌜ r ≡ firstOf (stationTests line shut kb f) ⌝ }
 {
-    let line = b.line;
     let stage = line.stage;
-    let order = line.order;
-    let instrument = line.instrument;
+    let opening = line.opening;
+    let order = opening.order;
+    let instrument = opening.instrument;
     let limits = station::judge(order, instrument, line.present.difference, f);
     let turn = pick(out_of_turn(line, kb), 23, limits);
     let full = pick(200 <= line.present.count, 22, turn);
@@ -107,111 +106,88 @@ fn station_state(b: Book, shut: bool, kb: i64, f: Figures) -> u8
 }
 
 // The refusal of a station with the figures f, whose back staff has the constant kb: 20 to 28, or 0. 6, 7 and 8 are told by `station::read`.
-pub fn station_refusal(b: Book, kb: i64, f: Figures) -> u8
-    ensures { λ r. ⌜ r ≡ firstOf ((20, broken (standingOf b)) ∷ stationTests (standingOf b) kb f) ⌝ }
+pub fn station_refusal(line: Line, count: usize, numbers: &[i64; 64], kb: i64, f: Figures) -> u8
+    ensures { λ r. ⌜ r ≡ firstOf (bookStationTests (numbersIn line count (now (numbers .entry))) kb f) ⌝ }
 {
-    let seen = look(
-        b.line,
-        b.sections.count,
-        &b.sections.numbers,
-        &b.sections.heights,
-        &b.sections.distances,
-        &b.sections.discrepancies,
-    );
+    let seen = look(line, count, numbers);
     if seen.broken {
         return 20;
     }
-    station_state(b, seen.shut, kb, f)
+    station_state(line, seen.shut, kb, f)
 }
 
 // ---- drop run, and drop section, whose tests are the same
 
-pub fn drop_refusal(b: Book) -> u8
-    ensures { λ r. ⌜ r ≡ bookRefusal (standingOf b) drop-run ⌝ }
+pub fn drop_refusal(line: Line, count: usize) -> u8
+    ensures { λ r. ⌜ r ≡ bookRefusal (beside line count) drop-run ⌝ }
 {
-    let seen = look(
-        b.line,
-        b.sections.count,
-        &b.sections.numbers,
-        &b.sections.heights,
-        &b.sections.distances,
-        &b.sections.discrepancies,
-    );
-    if seen.broken {
+    if line_broken(line, count) {
         return 20;
     }
-    let line = b.line;
     let stage = line.stage;
     pick(!is_open(stage), 21, 0)
 }
 
 // ---- end run
 
-fn number_allowed(b: Book, number: i64) -> bool
-    requires { ⌜ b .sections .count ≤ 64 ⌝ }
-    ensures { λ r. ⌜ r ≡ numberAllowed (standingOf b) number ⌝ }
+fn number_allowed(line: Line, count: usize, numbers: &[i64; 64], number: i64) -> bool
+    requires { ⌜ count ≤ 64 ⌝ }
+    ensures { λ r. ⌜ r ≡ numberAllowed (numbersIn line count (now (numbers .entry))) number ⌝ }
 {
-    let sections = b.sections;
-    let line = b.line;
     let waiting = line.waiting;
-    let start = line.start.number;
+    let start = line.opening.start.number;
     if is_return(waiting) {
-        let began = began_at(start, sections);
+        let began = began_at(start, count, numbers);
         return number == began;
     }
-    !on_line(&sections.numbers, sections.count, number)
-        & !((number == start) & (sections.count == 0))
+    !on_line(numbers, count, number) & !((number == start) & (count == 0))
 }
 
 // Whether an outward run and its return, the present run, are too far apart.
-fn too_far(waiting: Waiting, present: Run) -> bool
+fn too_far(apart: Root, waiting: Waiting, present: Run) -> bool
     requires { ⌜ SmallRuns waiting present ⌝ }
-    ensures { λ r. ⌜ r ≡ outwardOrReturn waiting false (λ number run. not (discrepancyWithin (bothWays number run present))) ⌝ }
+    ensures { λ r. ⌜ r ≡ outwardOrReturn waiting false (λ number run. not (discrepancyWithin apart (bothWays number run present))) ⌝ }
 {
     match waiting {
         Waiting::Nothing => false,
         Waiting::Outward(_, run) => !within(
-            625,
+            apart.a,
             run.height + present.height,
-            18,
+            apart.b,
             run.sights + present.sights,
         ),
     }
 }
 
-fn end_state(b: Book, shut: bool, number: i64) -> u8
-    requires { ⌜ (broken (standingOf b) ≡ false) × (shut ≡ isShut (standingOf b)) ⌝ }
-    ensures { λ r. ⌜ r ≡ firstOf (stateTests (standingOf b) (end-run number)) ⌝ }
+// The refusal that the line and the numbers of its sections cause; their heights, lengths and discrepancies do not matter.
+fn end_state(line: Line, count: usize, numbers: &[i64; 64], shut: bool, number: i64) -> u8
+    requires { ⌜ ((count ≤ 64) × SmallRuns (line .waiting) (line .present)) × (shut ≡ isShut (numbersIn line count (now numbers))) ⌝ }
+    ensures { λ r. ⌜ r ≡ firstOf (stateTests (numbersIn line count (now (numbers .entry))) (end-run number)) ⌝ }
 {
-    let line = b.line;
-    let sections = b.sections;
     let stage = line.stage;
     let waiting = line.waiting;
     let present = line.present;
-    let count = present.count;
-    let far = pick(too_far(waiting, present), 32, 0);
-    let place = pick(!number_allowed(b, number), 30, far);
-    let full = pick(!is_return(waiting) & (64 <= sections.count), 31, place);
-    let odd = pick((count == 0) | (count % 2 == 1), 29, full);
+    let stations = present.count;
+    let opening = line.opening;
+    let order = opening.order;
+    let terms = terms_of(order);
+    let apart = terms.apart;
+    let far = pick(too_far(apart, waiting, present), 32, 0);
+    let place = pick(!number_allowed(line, count, numbers, number), 30, far);
+    let full = pick(!is_return(waiting) & (64 <= count), 31, place);
+    let odd = pick((stations == 0) | (stations % 2 == 1), 29, full);
     pick(!is_open(stage) | shut, 21, odd)
 }
 
-pub fn end_refusal(b: Book, number: i64) -> u8
-    ensures { λ r. ⌜ r ≡ bookRefusal (standingOf b) (end-run number) ⌝ }
+pub fn end_refusal(line: Line, count: usize, numbers: &[i64; 64], number: i64) -> u8
+    ensures { λ r. ⌜ r ≡ bookRefusal (numbersIn line count (now (numbers .entry))) (end-run number) ⌝ }
 {
     if !number_in_range(number) {
         return 4;
     }
-    let seen = look(
-        b.line,
-        b.sections.count,
-        &b.sections.numbers,
-        &b.sections.heights,
-        &b.sections.distances,
-        &b.sections.discrepancies,
-    );
+    let seen = look(line, count, numbers);
     if seen.broken {
         return 20;
     }
-    end_state(b, seen.shut, number)
+    end_state(line, count, numbers, seen.shut, number)
 }

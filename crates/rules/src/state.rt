@@ -6,15 +6,14 @@ ghost use lib.ListN.{length};
 ghost use Rattle.numbers.specs.Whole.{lastOf};
 ghost use Rattle.adjust.specs.declared.Section.{Section};
 ghost use Rattle.adjust.specs.Sections.{sectionsOf};
-ghost use Rattle.rules.specs.Standing.{isFresh, isOpen, isClosed, isReturn, twoWay, runFits, waitingBroken, lineBroken, misplaced};
-ghost use Rattle.rules.specs.Seen.{isAmong, seenIn};
+ghost use Rattle.rules.specs.Standing.{isFresh, isOpen, isClosed, isReturn, runFits, waitingBroken, misplaced, lineBroken};
+ghost use Rattle.rules.specs.code.Seen.{numbered, isAmong, seenIn};
 use super::Line;
 use super::Run;
 use super::Stage;
 use super::Waiting;
-use adjust::Sections;
+use adjust::terms::terms_of;
 use roots::limits::magnitude;
-use station::Order;
 
 pub(crate) fn is_fresh(stage: Stage) -> bool
     ensures { λ r. ⌜ r ≡ isFresh stage ⌝ }
@@ -71,16 +70,15 @@ pub(crate) fn on_line(numbers: &[i64], count: usize, number: i64) -> bool
 }
 
 // The benchmark where the present section began.
-pub(crate) fn began_at(start: i64, s: Sections) -> i64
-    requires { ⌜ s .count ≤ 64 ⌝ }
-    ensures { λ r. ⌜ r ≡ lastOf start (map (λ (x : Section). x .number) (sectionsOf s)) ⌝ }
+pub(crate) fn began_at(start: i64, count: usize, numbers: &[i64; 64]) -> i64
+    requires { ⌜ count ≤ 64 ⌝ }
+    ensures { λ r. ⌜ r ≡ lastOf start (map (λ (x : Section). x .number) (sectionsOf (numbered count (now (numbers .entry))))) ⌝ }
 {
-    let count = s.count;
     if count == 0 {
         return start;
     }
     let last = count - 1;
-    s.numbers[last]
+    numbers[last]
 }
 
 fn run_fits(u: Run) -> bool
@@ -101,63 +99,51 @@ fn waiting_broken(waiting: Waiting, count: usize) -> bool
     }
 }
 
-fn line_broken(line: Line, count: usize) -> bool
-    ensures { λ r. ⌜ r ≡ lineBroken line count ⌝ }
-{
-    let waiting = line.waiting;
-    let present = line.present;
-    !run_fits(present)
-        | waiting_broken(waiting, count)
-        | !adjust::height_in_range(line.start.height)
-        | !adjust::height_in_range(line.end)
-}
-
-fn is_two_way(order: Order) -> bool
-    ensures { λ r. ⌜ r ≡ twoWay order ⌝ }
-{
-    match order {
-        Order::Third => true,
-        Order::Fourth => false,
-    }
-}
-
 fn is_misplaced(line: Line, count: usize) -> bool
     ensures { λ r. ⌜ r ≡ misplaced line count ⌝ }
 {
     let stage = line.stage;
     let waiting = line.waiting;
-    let order = line.order;
+    let opening = line.opening;
+    let order = opening.order;
+    let terms = terms_of(order);
     let back = is_return(waiting);
     (is_fresh(stage) & !((count == 0) & (line.present.count == 0) & !back))
-        | (back & !is_two_way(order))
+        | (back & !terms.double)
+        | (is_closed(stage) & (count == 0))
 }
 
-// What a call's tests ask of all sections of a book: whether the record is broken (refusal 20), and where it is not, whether the loop is shut.
+// Refusal 20 of a line beside count sections.
+pub(crate) fn line_broken(line: Line, count: usize) -> bool
+    ensures { λ r. ⌜ r ≡ lineBroken line count ⌝ }
+{
+    let waiting = line.waiting;
+    let present = line.present;
+    (64 < count)
+        | !run_fits(present)
+        | waiting_broken(waiting, count)
+        | !adjust::height_in_range(line.opening.start.height)
+        | !adjust::height_in_range(line.end)
+        | is_misplaced(line, count)
+}
+
+// Whether a line is broken, and where it is not, whether its loop is shut.
 pub(crate) struct Seen {
     pub(crate) broken: bool,
     pub(crate) shut: bool,
 }
 
-// Of a line and the lists of its sections, which are lent: a book by value would be copied to be looked at.
-pub(crate) fn look<'a>(
-    line: Line,
-    count: usize,
-    numbers: &'a [i64],
-    heights: &'a [i64],
-    distances: &'a [i64],
-    discrepancies: &'a [i64],
-) -> Seen
-    requires { ⌜ 64 ≤ length (now numbers) ⌝ }
-    ensures { λ r. ⌜ r ≡ seenIn line count (now (numbers .entry)) (now (heights .entry)) (now (distances .entry)) (now (discrepancies .entry)) ⌝ }
+// The numbers of its sections are lent: a book by value would be copied to be looked at.
+pub(crate) fn look(line: Line, count: usize, numbers: &[i64; 64]) -> Seen
+    ensures { λ r. ⌜ r ≡ seenIn line count (now (numbers .entry)) ⌝ }
 {
-    let misfit = adjust::table::misfits(count, heights, distances, discrepancies);
-    if misfit | line_broken(line, count) | is_misplaced(line, count) {
+    if line_broken(line, count) {
         return Seen {
             broken: true,
             shut: false,
         };
     }
-    let shut = on_line(numbers, count, line.start.number);
+    let shut = on_line(numbers, count, line.opening.start.number);
     Seen {
         broken: false,
         shut: shut,

@@ -1,18 +1,25 @@
 -- `close_refusal` meets its contract, by the parts of a refusal.
 use mathlib.Core.Path.{_≡_, refl, sym, ap, _∙_}
+use mathlib.Core.Bool.{Bool, _||_}
+use lib.IntN.{ℤ}
 use Rattle.numbers.specs.Tables.{firstOf}
-use Rattle.numbers.proofs.Machine.{stored-id, stored-both}
-use Rattle.numbers.proofs.Tests.{not-false}
+use Rattle.numbers.proofs.Machine.{stored, stored-id, stored-both}
+use Rattle.numbers.proofs.Tests.{or-r, not-false}
 use Rattle.numbers.proofs.Tables.{failed}
 use Rattle.adjust.specs.Sections.{heightInRange}
-use Rattle.adjust.proofs.Holding.{Whole}
-use Rattle.rules.specs.Standing.{standingOf}
-use Rattle.rules.specs.Rules.{Call, close-line, inputTests, stateTests}
+use Rattle.adjust.proofs.Lent.{misfit-lent}
+use Rattle.rules.specs.declared.Book.{Book}
+use Rattle.rules.specs.Standing.{standingOf, bookIn}
+use Rattle.rules.specs.Rules.{Call, close-line, broken, inputTests, stateTests}
 use Rattle.rules.proofs.Parts.{input-refused, broken-refused, state-refused}
-use Rattle.rules.proofs.Looked.{seenOf, seen-lent, saw-broken, saw-shut}
+use Rattle.rules.proofs.Looked.{counted-broken, shut-alike, saw-broken, saw-shut}
 use borrow.Author.Needs.{needs}
 use Rattle.rules.proofs.closing.close_refusal.Statement.{statement}
 use Rattle.rules.proofs.closing.close_refusal.Tie as tie
+
+-- the line and the lent lists of its sections
+abbrev book : tie.Start → Book
+book s = bookIn (s .args .line) (s .args .count) (s .args .numbers .now) (s .args .heights .now) (s .args .distances .now) (s .args .discrepancies .now)
 
 close-input-requires : tie.Need-close-input-requires
 close-input-requires c κs = search needs
@@ -32,43 +39,52 @@ taken c = sym (number (c .before)) ∙ c .if1 .left
 returns : tie.Need-returns
 returns c =
     let s = c .before .before in
-    input-refused (standingOf (s .args .t1)) (call s) (c .before .close-input .result) (number (c .before)) (c .if1 .taken)
+    input-refused (standingOf (book s)) (call s) (c .before .close-input .result) (number (c .before)) (c .if1 .taken)
 
-whole : (s : tie.Start) → Whole (s .args .t1 .sections)
-whole s = search needs
+misfits-requires : tie.Need-misfits-requires
+misfits-requires c κs = search needs
 
 look-requires : tie.Need-look-requires
 look-requires c κs = search needs
 
--- what was seen of the book
-seen : (c : tie.After-look) → c .look .result ≡ seenOf (standingOf (c .before .before .before .before .before .before .before .before .before .before .before .before .before .args .t1))
-seen c = let s = c .before .before .before .before .before .before .before .before .before .before .before .before .before in c .look .ensures ∙ seen-lent (s .args .t1) (whole s)
+-- 20, as the two tests told it
+tested : (d : tie.After-struct-known) {t : Bool} → d .before .before .misfits .result || d .before .look .result .broken ≡ t
+    → broken (standingOf (book (d .before .before .before .before .before))) (call (d .before .before .before .before .before)) ≡ t
+tested d e =
+    let k = d .before in
+    let m = k .before in
+    let s = m .before .before .before in
+    let b = book s in
+    let line = counted-broken (b .line) (b .sections) ∙ saw-broken (b .line) (b .sections .count) (b .sections .numbers) (k .look .ensures) refl in
+    (λ i. sym (m .misfits .ensures ∙ misfit-lent (b .sections)) i || line i) ∙ e
 
 returns-2 : tie.Need-returns-2
 returns-2 c =
-    let k = c .before in
-    let e = k .before .before .before .before .before .before .before .before .before .before .before in
+    let d = c .before in
+    let e = d .before .before .before in
     let s = e .before .before in
-    broken-refused (standingOf (s .args .t1)) (call s) (taken e) (saw-broken (standingOf (s .args .t1)) (k .look .result) (seen k) (c .if2 .taken))
+    broken-refused (standingOf (book s)) (call s) (taken e) (tested d (c .if2 .taken))
 
 close-state-requires : tie.Need-close-state-requires
 close-state-requires c κs =
-    let k = c .before in
-    let e = k .before .before .before .before .before .before .before .before .before .before .before in
+    let d = c .before in
+    let k = d .before in
+    let e = k .before .before in
     let s = e .before .before in
-    let v = standingOf (s .args .t1) in (
-      (saw-broken v (k .look .result) (seen k) (c .if2 .left), saw-shut v (k .look .result) (seen k) (c .if2 .left)),
+    let b = book s in
+    let whole = or-r (k .before .misfits .result) (k .look .result .broken) (c .if2 .left) in (
+      (ap (λ (z : ℤ). broken (standingOf b) (close-line (stored (s .args .number)) z)) (stored-id (s .fits .end)) ∙ tested d (c .if2 .left), saw-shut (b .line) (b .sections .count) (b .sections .numbers) (k .look .ensures) whole ∙ shut-alike b),
       ap heightInRange (stored-id (s .fits .end)) ∙ not-false (heightInRange (s .args .end)) (failed (inputTests (call s)) refl (taken e) 5),
     )
 
 returns-3 : tie.Need-returns-3
 returns-3 c =
     let l = c .before in
-    let k = l .before in
-    let e = k .before .before .before .before .before .before .before .before .before .before .before in
+    let d = l .before in
+    let e = d .before .before .before in
     let s = e .before .before in
-    state-refused (standingOf (s .args .t1)) (call s) (c .close-state .result) (taken e) (saw-broken (standingOf (s .args .t1)) (k .look .result) (seen k) (l .if2 .left))
-    (c .close-state .ensures ∙ stored-both (λ n h. firstOf (stateTests (standingOf (s .args .t1)) (close-line n h))) (s .fits .number) (s .fits .end))
+    state-refused (standingOf (book s)) (call s) (c .close-state .result) (taken e) (tested d (l .if2 .left))
+    (c .close-state .ensures ∙ stored-both (λ n h. firstOf (stateTests (standingOf (book s)) (close-line n h))) (s .fits .number) (s .fits .end))
 
 pub close-refusal-spec : {M : Type 1} → statement M
 close-refusal-spec =
@@ -76,6 +92,7 @@ close-refusal-spec =
     (tie.spec
     close-input-requires
     returns
+    misfits-requires
     look-requires
     returns-2
     close-state-requires

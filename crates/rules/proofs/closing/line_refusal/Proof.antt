@@ -1,87 +1,78 @@
--- `line_refusal` meets its contract: the totals are W and L where the figures fit, and are tested as the table has them.
-use mathlib.Core.Path.{_≡_, ap, _∙_}
-use mathlib.Core.Bool.{Bool, not, cond}
-use lib.IntN.{ℤ, pos}
-use lib.Signed.{leZ}
+-- `line_refusal` meets its contract: where the figures fit there are totals, W and L.
+use mathlib.Core.Path.{_≡_, sym, ap, _∙_}
+use mathlib.Core.Bool.{Bool, true, false}
 use mir.Syntax.{w64}
 use mir.Val.{SFits}
-use Rattle.numbers.proofs.Machine.{stored, stored-id, stored-both}
-use Rattle.numbers.proofs.Chain.{known}
+use Rattle.numbers.specs.Tables.{firstOf}
+use Rattle.numbers.proofs.Tests.{no-true}
+use Rattle.numbers.proofs.Machine.{stored-both}
 use Rattle.adjust.specs.declared.Totals.{Totals}
+use Rattle.adjust.specs.declared.LineTotals.{LineTotals}
+use Rattle.adjust.specs.declared.LineTotals.the-variants.{Totalled, NotTotalled}
 use Rattle.adjust.specs.Sections.{sectionsOf}
-use Rattle.adjust.specs.Line.{closure, lineLength}
-use Rattle.adjust.specs.Frames.{totalsIfFit}
-use Rattle.adjust.proofs.Sized.{fitting, framed}
-use Rattle.rules.specs.Rules.{lengthLimit, closureWithin}
+use Rattle.adjust.specs.Line.{totals}
+use Rattle.adjust.specs.Frames.{lineTotals}
+use Rattle.adjust.proofs.Sized.{totals-by}
+use Rattle.rules.specs.Rules.{totalTests}
 use borrow.Author.Needs.{needs}
 use Rattle.rules.proofs.closing.line_refusal.Statement.{statement}
 use Rattle.rules.proofs.closing.line_refusal.Tie as tie
 
+terms-of-requires : tie.Need-terms-of-requires
+terms-of-requires c κs = search needs
+
 totals-of-requires : tie.Need-totals-of-requires
 totals-of-requires c κs = search needs
 
-length-limit-requires : tie.Need-length-limit-requires
-length-limit-requires c κs = search needs
+enum-known-answer : tie.Need-enum-known-answer
+enum-known-answer c = search needs
 
-closure-within-requires : tie.Need-closure-within-requires
-closure-within-requires c κs = search needs
+limit-refusal-requires : tie.Need-limit-refusal-requires
+limit-refusal-requires c κs = search needs
 
-pick-requires : tie.Need-pick-requires
-pick-requires c κs = search needs
+enum-told : tie.Need-enum-told
+enum-told c = search needs
 
-pick-requires-2 : tie.Need-pick-requires-2
-pick-requires-2 c κs = search needs
-
-height-fits : (s : tie.Start) → SFits w64 (s .args .b .line .start .height)
+height-fits : (s : tie.Start) → SFits w64 (s .args .line .opening .start .height)
 height-fits s = search needs
 
--- W and L of the line
-abbrev w : tie.Start → ℤ
-w s = closure (s .args .b .line .start .height) (s .args .end) (sectionsOf (s .args .b .sections))
+-- what the answer holds
+abbrev held : Totals → LineTotals → Totals
+held d (Totalled t) = t
+held d NotTotalled = d
 
-abbrev l : tie.Start → ℤ
-l s = lineLength (sectionsOf (s .args .b .sections))
+abbrev some : LineTotals → Bool
+some (Totalled t) = true
+some NotTotalled = false
 
-totals : (c : tie.After-totals-of) → c .totals-of .result ≡ record { closure = w (c .before .before .before .before); distance = l (c .before .before .before .before) }
-unfolding totalsIfFit
-totals c =
-    let s = c .before .before .before .before in
-    c .totals-of .ensures
-    ∙ stored-both (λ x y. totalsIfFit x y (sectionsOf (s .args .b .sections))) (height-fits s) (s .fits .end)
-    ∙ ap (λ (t : Bool). cond t (record { closure = w s; distance = l s }) (record { closure = pos 0; distance = pos 0 })) (s .pre .0)
-
--- as the machine reads them back
-closed : (c : tie.After-totals-of) → stored (c .totals-of .result .closure) ≡ w (c .before .before .before .before)
-closed c =
-    let s = c .before .before .before .before in
-    ap (λ (t : Totals). stored (t .closure)) (totals c)
-    ∙ known (w s) (framed (fitting (s .args .b .line .start .height) (s .args .end) (s .args .b .sections) (s .pre .0) .0) .closing) tt .is
-
-long : (c : tie.After-totals-of) → stored (c .totals-of .result .distance) ≡ l (c .before .before .before .before)
-long c =
-    let s = c .before .before .before .before in
-    ap (λ (t : Totals). stored (t .distance)) (totals c)
-    ∙ known (l s) (framed (fitting (s .args .b .line .start .height) (s .args .end) (s .args .b .sections) (s .pre .0) .0) .total) tt .is
+fit : (m : tie.After-totals-of) → m .totals-of .result
+    ≡ Totalled (totals (m .before .before .before .before .args .line .opening .start .height) (m .before .before .before .before .args .end) (sectionsOf (m .before .before .before .before .args .sections)))
+fit m =
+    let s = m .before .before .before .before in
+    let a = s .args in
+    m .totals-of .ensures ∙ stored-both (λ x y. lineTotals x y (sectionsOf (a .sections))) (height-fits s) (s .fits .end)
+    ∙ totals-by (a .line .opening .start .height) (a .end) (sectionsOf (a .sections)) (s .pre .0)
 
 returns : tie.Need-returns
 returns c =
-    let last = c .before .before .before in
-    let inside = last .before in
-    let most = inside .before .before .before in
-    let t = most .before in
-    let s = t .before .before .before .before in
-    let order = s .args .b .line .order in
-    let limit = stored-id (record { sfits = most .length-limit .ok }) ∙ most .length-limit .ensures ∙ ap (lengthLimit order) (s .pre .1) in
-    let e36 = last .pick .ensures ∙ (λ i. cond (not ((inside .closure-within .ensures ∙ (λ j. closureWithin order (closed t j) (long t j))) i)) 36 0) in
-    c .pick2 .ensures ∙ (λ i. cond (not (leZ (long t i) (limit i))) 35 (e36 i))
+    let k = c .before .before in
+    let m = k .before .before in
+    let read = m .before .before in
+    let s = read .before .before in
+    let t = ap (held (k .answer .given .0 .0)) (sym (k .answer .given .1) ∙ fit m) in
+    c .limit-refusal .ensures ∙ (λ i. firstOf (totalTests (read .terms-of .ensures i) (s .pre .1 i) (t i)))
+
+returns-2 : tie.Need-returns-2
+returns-2 c = no-true (ap some (sym (c .enum-told .given .1) ∙ fit (c .before .before)))
 
 pub line-refusal-spec : {M : Type 1} → statement M
 line-refusal-spec =
     tie.close
     (tie.spec
+    terms-of-requires
     totals-of-requires
-    length-limit-requires
-    closure-within-requires
-    pick-requires
-    pick-requires-2
-    returns)
+    enum-known-answer
+    limit-refusal-requires
+    enum-told
+    returns
+    returns-2)

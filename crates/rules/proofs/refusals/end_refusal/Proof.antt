@@ -5,14 +5,19 @@ use native.Mathlib.Omega.{arith}
 use lib.IntN.{ℤ}
 use Rattle.numbers.specs.Tables.{firstOf}
 use Rattle.numbers.proofs.Machine.{stored-id}
-use Rattle.adjust.proofs.Holding.{Whole}
-use Rattle.rules.specs.Standing.{standingOf}
+use Rattle.rules.specs.Standing.{Standing, lineBroken}
+use Rattle.rules.specs.code.Seen.{numbered, numbersIn}
 use Rattle.rules.specs.Rules.{end-run, numberInRange, inputTests, stateTests}
 use Rattle.rules.proofs.Parts.{input-refused, broken-refused, state-refused}
-use Rattle.rules.proofs.Looked.{seenOf, seen-lent, saw-broken, saw-shut}
+use Rattle.rules.proofs.Unbroken.{unbroken, small-runs}
+use Rattle.rules.proofs.Looked.{counted-broken, saw-broken, saw-shut}
 use borrow.Author.Needs.{needs}
 use Rattle.rules.proofs.refusals.end_refusal.Statement.{statement}
 use Rattle.rules.proofs.refusals.end_refusal.Tie as tie
+
+-- the line and the numbers of its sections
+abbrev held : tie.Start → Standing
+held s = numbersIn (s .args .line) (s .args .count) (s .args .numbers .now)
 
 number-in-range-requires : tie.Need-number-in-range-requires
 number-in-range-requires c κs = search needs
@@ -25,39 +30,39 @@ input c t e =
 returns : tie.Need-returns
 returns c =
     let s = c .before .before in
-    input-refused (standingOf (s .args .t1)) (end-run (s .args .number)) 4 (sym (input (c .before) true (c .if1 .taken))) (λ e. absurd (omega arith))
-
-whole : (s : tie.Start) → Whole (s .args .t1 .sections)
-whole s = search needs
+    input-refused (held s) (end-run (s .args .number)) 4 (sym (input (c .before) true (c .if1 .taken))) (λ e. absurd (omega arith))
 
 look-requires : tie.Need-look-requires
 look-requires c κs = search needs
 
--- what was seen of the book
-seen : (c : tie.After-look) → c .look .result ≡ seenOf (standingOf (c .before .before .before .before .before .before .before .before .before .before .before .before .before .args .t1))
-seen c = let s = c .before .before .before .before .before .before .before .before .before .before .before .before .before in c .look .ensures ∙ seen-lent (s .args .t1) (whole s)
+-- 20, as the look at the line told it
+seen : (k : tie.After-look) {t : Bool} → k .look .result .broken ≡ t → lineBroken (k .before .before .before .args .line) (k .before .before .before .args .count) ≡ t
+seen k e = let a = k .before .before .before .args in saw-broken (a .line) (a .count) (a .numbers .now) (k .look .ensures) e
 
 returns-2 : tie.Need-returns-2
 returns-2 c =
     let k = c .before in
-    let e = k .before .before .before .before .before .before .before .before .before .before .before in
+    let e = k .before in
     let s = e .before .before in
-    broken-refused (standingOf (s .args .t1)) (end-run (s .args .number)) (input (e .before) false (e .if1 .left)) (saw-broken (standingOf (s .args .t1)) (k .look .result) (seen k) (c .if2 .taken))
+    let a = s .args in
+    broken-refused (held s) (end-run (a .number)) (input (e .before) false (e .if1 .left)) (counted-broken (a .line) (numbered (a .count) (a .numbers .now)) ∙ seen k (c .if2 .taken))
 
 end-state-requires : tie.Need-end-state-requires
 end-state-requires c κs =
     let k = c .before in
-    let v = standingOf (k .before .before .before .before .before .before .before .before .before .before .before .before .before .args .t1) in
-    (saw-broken v (k .look .result) (seen k) (c .if2 .left), saw-shut v (k .look .result) (seen k) (c .if2 .left))
+    let a = k .before .before .before .args in
+    let u = unbroken (a .line) (a .count) (seen k (c .if2 .left)) in
+    ((u .few, small-runs (a .line) (a .count) u), saw-shut (a .line) (a .count) (a .numbers .now) (k .look .ensures) (c .if2 .left))
 
 returns-3 : tie.Need-returns-3
 returns-3 c =
     let l = c .before in
     let k = l .before in
-    let e = k .before .before .before .before .before .before .before .before .before .before .before in
+    let e = k .before in
     let s = e .before .before in
-    state-refused (standingOf (s .args .t1)) (end-run (s .args .number)) (c .end-state .result) (input (e .before) false (e .if1 .left)) (saw-broken (standingOf (s .args .t1)) (k .look .result) (seen k) (l .if2 .left))
-    (c .end-state .ensures ∙ ap (λ (n : ℤ). firstOf (stateTests (standingOf (s .args .t1)) (end-run n))) (stored-id (s .fits .number)))
+    let a = s .args in
+    state-refused (held s) (end-run (a .number)) (c .end-state .result) (input (e .before) false (e .if1 .left)) (counted-broken (a .line) (numbered (a .count) (a .numbers .now)) ∙ seen k (l .if2 .left))
+    (c .end-state .ensures ∙ ap (λ (n : ℤ). firstOf (stateTests (held s) (end-run n))) (stored-id (s .fits .number)))
 
 pub end-refusal-spec : {M : Type 1} → statement M
 end-refusal-spec =

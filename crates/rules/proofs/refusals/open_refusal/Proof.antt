@@ -1,13 +1,13 @@
 -- `open_refusal` meets its contract, by the parts of a refusal.
 use mathlib.Core.Path.{_≡_, sym, _∙_}
 use mathlib.Core.Bool.{not, cond}
+use mathlib.Core.List.{[]}
 use Rattle.numbers.specs.Tables.{firstOf}
 use Rattle.numbers.proofs.Machine.{stored-id}
-use Rattle.adjust.proofs.Holding.{Whole}
-use Rattle.rules.specs.Standing.{standingOf}
 use Rattle.rules.specs.Rules.{Call, open-line, inputTests}
+use Rattle.rules.specs.code.Seen.{numbered, beside}
 use Rattle.rules.proofs.Parts.{input-refused, broken-refused, state-refused}
-use Rattle.rules.proofs.Looked.{seenOf, seen-lent, saw-broken}
+use Rattle.rules.proofs.Looked.{counted-broken}
 use borrow.Author.Needs.{needs}
 use Rattle.rules.proofs.refusals.open_refusal.Statement.{statement}
 use Rattle.rules.proofs.refusals.open_refusal.Tie as tie
@@ -27,24 +27,18 @@ number c =
 returns : tie.Need-returns
 returns c =
     let s = c .before .before in
-    input-refused (standingOf (s .args .t1)) (call s) (c .before .open-input .result) (number (c .before)) (c .if1 .taken)
+    input-refused (beside (s .args .line) (s .args .count)) (call s) (c .before .open-input .result) (number (c .before)) (c .if1 .taken)
 
-whole : (s : tie.Start) → Whole (s .args .t1 .sections)
-whole s = search needs
-
-look-requires : tie.Need-look-requires
-look-requires c κs = search needs
-
--- what was seen of the book
-seen : (c : tie.After-look) → c .look .result ≡ seenOf (standingOf (c .before .before .before .before .before .before .before .before .before .before .before .before .before .args .t1))
-seen c = let s = c .before .before .before .before .before .before .before .before .before .before .before .before .before in c .look .ensures ∙ seen-lent (s .args .t1) (whole s)
+line-broken-requires : tie.Need-line-broken-requires
+line-broken-requires c κs = search needs
 
 returns-2 : tie.Need-returns-2
 returns-2 c =
     let k = c .before in
-    let e = k .before .before .before .before .before .before .before .before .before .before .before in
+    let e = k .before in
     let s = e .before .before in
-    broken-refused (standingOf (s .args .t1)) (call s) (sym (number (e .before)) ∙ e .if1 .left) (saw-broken (standingOf (s .args .t1)) (k .look .result) (seen k) (c .if2 .taken))
+    let a = s .args in
+    broken-refused (beside (a .line) (a .count)) (call s) (sym (number (e .before)) ∙ e .if1 .left) (counted-broken (a .line) (numbered (a .count) []) ∙ sym (k .line-broken .ensures) ∙ c .if2 .taken)
 
 is-fresh-requires : tie.Need-is-fresh-requires
 is-fresh-requires c κs = search needs
@@ -54,11 +48,13 @@ pick-requires c κs = search needs
 
 returns-3 : tie.Need-returns-3
 returns-3 c =
-    let l = c .before .before .before in
+    let l = c .before .before in
     let k = l .before in
-    let e = k .before .before .before .before .before .before .before .before .before .before .before in
+    let e = k .before in
     let s = e .before .before in
-    state-refused (standingOf (s .args .t1)) (call s) (c .pick .result) (sym (number (e .before)) ∙ e .if1 .left) (saw-broken (standingOf (s .args .t1)) (k .look .result) (seen k) (l .if2 .left))
+    let a = s .args in
+    state-refused (beside (a .line) (a .count)) (call s) (c .pick .result) (sym (number (e .before)) ∙ e .if1 .left)
+    (counted-broken (a .line) (numbered (a .count) []) ∙ sym (k .line-broken .ensures) ∙ l .if2 .left)
     (c .pick .ensures ∙ (λ i. cond (not (c .before .is-fresh .ensures i)) 21 0))
 
 pub open-refusal-spec : {M : Type 1} → statement M
@@ -67,7 +63,7 @@ open-refusal-spec =
     (tie.spec
     open-input-requires
     returns
-    look-requires
+    line-broken-requires
     returns-2
     is-fresh-requires
     pick-requires

@@ -1,53 +1,46 @@
--- `station_refusal` meets its contract, by what was seen of the book.
+-- `station_refusal` meets its contract, by what was seen of the line.
 use mathlib.Core.Path.{_≡_, sym, ap, _∙_}
 use mathlib.Core.Bool.{Bool, cond}
 use Prim.Native.Nat.{ℕ}
-use lib.IntN.{ℤ}
 use Rattle.numbers.specs.Tables.{firstOf}
 use Rattle.numbers.proofs.Machine.{stored-id}
-use Rattle.adjust.proofs.Holding.{Whole}
-use Rattle.rules.specs.Standing.{Standing, standingOf}
-use Rattle.rules.specs.Rules.{stationTests}
-use Rattle.rules.proofs.Looked.{seenOf, seen-lent, saw-broken, saw-shut}
+use Rattle.rules.specs.Standing.{isShut}
+use Rattle.rules.specs.Rules.{stationTests, bookStationTests}
+use Rattle.rules.specs.code.Seen.{numbered, numbersIn}
+use Rattle.rules.proofs.Looked.{counted-broken, saw-broken, saw-shut}
 use borrow.Author.Needs.{needs}
 use Rattle.rules.proofs.refusals.station_refusal.Statement.{statement}
 use Rattle.rules.proofs.refusals.station_refusal.Tie as tie
 
-whole : (s : tie.Start) → Whole (s .args .t1 .sections)
-whole s = search needs
-
 look-requires : tie.Need-look-requires
 look-requires c κs = search needs
 
-abbrev start : tie.After-look → tie.Start
-start c = c .before .before .before .before .before .before .before .before .before .before .before
-
-abbrev held : tie.After-look → Standing
-held c = standingOf (start c .args .t1)
-
--- the number of the tests from 21 on
+-- the tests from 21 on
 abbrev rest : tie.After-look → ℕ
-rest c = firstOf (stationTests (held c) (start c .args .kb) (start c .args .f))
+rest k = let a = k .before .args in firstOf (stationTests (a .line) (isShut (numbersIn (a .line) (a .count) (a .numbers .now))) (a .kb) (a .f))
 
--- what was seen of the book
-seen : (c : tie.After-look) → c .look .result ≡ seenOf (held c)
-seen c = c .look .ensures ∙ seen-lent (start c .args .t1) (whole (start c))
+-- the answer, by whether the line is broken
+answer : (k : tie.After-look) {t : Bool} → k .look .result .broken ≡ t
+    → cond t 20 (rest k) ≡ firstOf (bookStationTests (numbersIn (k .before .args .line) (k .before .args .count) (k .before .args .numbers .now)) (k .before .args .kb) (k .before .args .f))
+answer k e =
+    let a = k .before .args in
+    ap (λ (t : Bool). cond t 20 (rest k)) (sym (counted-broken (a .line) (numbered (a .count) (a .numbers .now)) ∙ saw-broken (a .line) (a .count) (a .numbers .now) (k .look .ensures) e))
 
 returns : tie.Need-returns
-returns c =
-    let k = c .before in
-    sym (ap (λ (t : Bool). cond t 20 (rest k)) (saw-broken (held k) (k .look .result) (seen k) (c .if1 .taken)))
+returns c = answer (c .before) (c .if1 .taken)
 
 station-state-requires : tie.Need-station-state-requires
-station-state-requires c κs = let k = c .before in saw-shut (held k) (k .look .result) (seen k) (c .if1 .left)
+station-state-requires c κs = search needs
 
 returns-2 : tie.Need-returns-2
 returns-2 c =
     let e = c .before in
     let k = e .before in
-    let s = start k in
-    c .station-state .ensures ∙ ap (λ (kb : ℤ). firstOf (stationTests (held k) kb (s .args .f))) (stored-id (s .fits .kb))
-    ∙ sym (ap (λ (t : Bool). cond t 20 (rest k)) (saw-broken (held k) (k .look .result) (seen k) (e .if1 .left)))
+    let s = k .before in
+    let a = s .args in
+    c .station-state .ensures
+    ∙ (λ i. firstOf (stationTests (a .line) (saw-shut (a .line) (a .count) (a .numbers .now) (k .look .ensures) (e .if1 .left) i) (stored-id (s .fits .kb) i) (a .f)))
+    ∙ answer k (e .if1 .left)
 
 pub station-refusal-spec : {M : Type 1} → statement M
 station-refusal-spec = tie.close (tie.spec look-requires returns station-state-requires returns-2)

@@ -30,7 +30,7 @@ is-open-requires c κs = search needs
 pick-requires-3 : tie.Need-pick-requires-3
 pick-requires-3 c κs = search needs
 
-difference-fits : (s : tie.Start) → SFits w64 (s .args .b .line .present .difference)
+difference-fits : (s : tie.Start) → SFits w64 (s .args .line .present .difference)
 difference-fits s = search needs
 
 returns : tie.Need-returns
@@ -41,11 +41,11 @@ returns c =
     let turn = turned .before in
     let limits = turn .before in
     let s = limits .before .before .before in
-    let l = s .args .b .line in
-    let limit = limits .judge .ensures ∙ (λ i. firstOf (limitTests (limitsOf (l .order) (l .instrument)) (stored-id (difference-fits s) i) (s .args .f))) in
+    let l = s .args .line in
+    let limit = limits .judge .ensures ∙ (λ i. firstOf (limitTests (limitsOf (l .opening .order) (l .opening .instrument)) (stored-id (difference-fits s) i) (s .args .f))) in
     let e23 = turned .pick .ensures ∙ (λ i. cond ((turn .out-of-turn .ensures ∙ ap (outOfTurn l) (stored-id (s .fits .kb))) i) 23 (limit i)) in
     let e22 = full .pick2 .ensures ∙ (λ i. cond (leb 200 (l .present .count)) 22 (e23 i)) in
-    c .pick3 .ensures ∙ (λ i. cond (not (opened .is-open .ensures i) || s .pre i) 21 (e22 i))
+    c .pick3 .ensures ∙ (λ i. cond (not (opened .is-open .ensures i) || s .args .shut) 21 (e22 i))
 
 pub station-state-spec : {M : Type 1} → statement M
 station-state-spec =

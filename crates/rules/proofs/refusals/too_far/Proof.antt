@@ -8,7 +8,7 @@ use Rattle.numbers.proofs.Chain.{Value, known, add, fits, kept}
 use Rattle.roots.specs.Limit.{isWithin}
 use Rattle.rules.specs.declared.Run.{Run}
 use Rattle.rules.specs.declared.Waiting.{Waiting}
-use Rattle.rules.specs.Bounds.{SmallRun, SmallRuns}
+use Rattle.rules.specs.code.Bounds.{SmallRun, SmallRuns}
 use Rattle.rules.specs.Standing.{outwardOrReturn, bothWays, mostG, mostS}
 use Rattle.rules.specs.Rules.{discrepancyWithin}
 use borrow.Author.Needs.{needs}
@@ -52,8 +52,9 @@ returns-2 : tie.Need-returns-2
 returns-2 c =
     let w = c .before .before .before .before .before .before .before .before .before .before in
     let present = w .before .before .args .present in
-    ap not (c .within .ensures ∙ (λ i. isWithin 625 (kept (height w) tt .is i) 18 (kept (sights w) tt .is i)))
-    ∙ sym (ap (λ (x : Waiting). outwardOrReturn x false (λ number out. not (discrepancyWithin (bothWays number out present)))) (w .waiting .given .1))
+    let apart = w .before .before .args .apart in
+    ap not (c .within .ensures ∙ (λ i. isWithin (apart .a) (kept (height w) tt .is i) (apart .b) (kept (sights w) tt .is i)))
+    ∙ sym (ap (λ (x : Waiting). outwardOrReturn x false (λ number out. not (discrepancyWithin apart (bothWays number out present)))) (w .waiting .given .1))
 
 pub too-far-spec : {M : Type 1} → statement M
 too-far-spec =

@@ -14,6 +14,7 @@ use Rattle.numbers.proofs.Machine.{stored-id}
 use Rattle.adjust.specs.declared.Section.{Section}
 use Rattle.adjust.specs.declared.Sections.{Sections}
 use Rattle.adjust.specs.Sections.{sectionsFrom, sectionsOf}
+use Rattle.rules.specs.code.Seen.{numbered}
 use Rattle.rules.proofs.state.began_at.Statement.{statement}
 use Rattle.rules.proofs.state.began_at.Tie as tie
 
@@ -38,10 +39,14 @@ none-of : (s : Sections) (a : ℤ) → s .count ≡ 0 → lastOf a (numbers (sec
 unfolding sectionsFrom
 none-of s a e = ap (λ (n : ℕ). lastOf a (numbers (sectionsFrom s 0 n))) e
 
+-- the numbers that are lent, as sections
+abbrev sections : tie.Start → Sections
+sections s = numbered (s .args .count) (s .args .numbers .now)
+
 returns : tie.Need-returns
 returns c =
     let s = c .before in
-    stored-id (s .fits .start) ∙ sym (none-of (s .args .t2) (s .args .start) (c .if1 .taken))
+    stored-id (s .fits .start) ∙ sym (none-of (sections s) (s .args .start) (c .if1 .taken))
 
 sub-last : tie.Need-sub-last
 sub-last c = search needs
@@ -52,13 +57,13 @@ mul-result c = search needs
 element-copy-out-result : tie.Need-element-copy-out-result
 element-copy-out-result c = search needs
 
-element-fits : (c : tie.After-result) → SFits w64 (getD (c .before .before .args .t2 .numbers) (c .before .before .args .t2 .count - 1) (pos 0))
+element-fits : (c : tie.After-result) → SFits w64 (getD (c .before .before .args .numbers .now) (c .before .before .args .count - 1) (pos 0))
 element-fits c = search needs
 
 returns-2 : tie.Need-returns-2
 returns-2 c =
     let s = c .before .before in
-    stored-id (element-fits c) ∙ sym (last-of (s .args .t2) (s .args .start) (pos-of-ne-zero (c .before .if1 .left)))
+    stored-id (element-fits c) ∙ sym (last-of (sections s) (s .args .start) (pos-of-ne-zero (c .before .if1 .left)))
 
 pub began-at-spec : {M : Type 1} → statement M
 began-at-spec = tie.close (tie.spec returns sub-last mul-result element-copy-out-result returns-2)

@@ -5,23 +5,28 @@ use borrow.Author.Needs.{needs}
 use Rattle.rules.proofs.state.is_misplaced.Statement.{statement}
 use Rattle.rules.proofs.state.is_misplaced.Tie as tie
 
+terms-of-requires : tie.Need-terms-of-requires
+terms-of-requires c κs = search needs
+
 is-return-requires : tie.Need-is-return-requires
 is-return-requires c κs = search needs
 
 is-fresh-requires : tie.Need-is-fresh-requires
 is-fresh-requires c κs = search needs
 
-is-two-way-requires : tie.Need-is-two-way-requires
-is-two-way-requires c κs = search needs
+is-closed-requires : tie.Need-is-closed-requires
+is-closed-requires c κs = search needs
 
 returns : tie.Need-returns
 returns c =
-    let fresh = c .before .before in
+    let fresh = c .before .before .before in
     let back = fresh .before in
-    let s = back .before in
+    let read = back .before in
+    let s = read .before .before in
     λ i. (fresh .is-fresh .ensures i && not (eqb (s .args .count) 0 && eqb (s .args .line .present .count) 0 && not (back .is-return .ensures i)))
-    || (back .is-return .ensures i && not (c .is-two-way .ensures i))
+    || (back .is-return .ensures i && not (read .terms-of .ensures i .double))
+    || (c .is-closed .ensures i && eqb (s .args .count) 0)
 
 pub is-misplaced-spec : {M : Type 1} → statement M
 is-misplaced-spec =
-    tie.close (tie.spec is-return-requires is-fresh-requires is-two-way-requires returns)
+    tie.close (tie.spec terms-of-requires is-return-requires is-fresh-requires is-closed-requires returns)

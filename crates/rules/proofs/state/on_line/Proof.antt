@@ -17,7 +17,7 @@ use Rattle.numbers.proofs.Machine.{stored, stored-id}
 use Rattle.adjust.specs.declared.Section.{Section}
 use Rattle.adjust.specs.declared.Sections.{Sections}
 use Rattle.adjust.specs.Sections.{sectionsOf}
-use Rattle.rules.specs.Seen.{numbered, isAmong}
+use Rattle.rules.specs.code.Seen.{numbered, isAmong}
 use Rattle.adjust.proofs.Lists.{remaining, all-remain, next-remains, none-remain}
 use Rattle.rules.proofs.state.on_line.Statement.{statement}
 use Rattle.rules.proofs.state.on_line.Tie as tie
