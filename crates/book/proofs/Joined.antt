@@ -1,76 +1,146 @@
--- How a call's refusal and its effect are joined to the change that it makes, and that to its outcome: one law for each case, for every call.
+-- From what a call changes to the book that it leaves, and to its answer: one law for each, for every call.
 use mathlib.Core.Path.{_≡_, refl, sym, ap, subst, _∙_}
-use mathlib.Core.Bool.{true}
+use mathlib.Core.Bool.{Bool, true, false, not, cond, _&&_}
 use mathlib.Core.List.{List, [], _∷_, _++_}
-use Prim.Native.Nat.{ℕ, _≤_}
+use Prim.Native.Nat.{ℕ, _+_, _≤_, _<_}
 use native.Mathlib.Omega.{arith}
-use lib.ListN.{length, getD, length-append, List·getD-eq-default}
-use lib.Seq.{getD-append-seam}
+use lib.Dec.{leb, ltb, eqb, eqb→eq, ltb→lt, nleb→lt}
+use lib.ListN.{length, getD, set}
 use lib.IntN.{ℤ}
-use borrow.Author.Tests.{le-ltb, lt-ltb}
+use borrow.Author.Tests.{lt-ltb}
 use mir.Syntax.{w64}
 use mir.Val.{SFits}
+use Rattle.numbers.proofs.Tests.{by-test, holds, fails, and-r, not-false}
 use Rattle.numbers.proofs.Tables.{zero-cond, nonzero-cond}
 use Rattle.numbers.proofs.Machine.{stored, stored-id, stored-both}
+use Rattle.adjust.specs.declared.Section.{Section}
+use Rattle.adjust.specs.declared.Sections.{Sections}
 use Rattle.adjust.specs.Sections.{sectionsOf, holding}
+use Rattle.adjust.specs.Terms.{termsOf}
 use Rattle.adjust.specs.Call.{numberOf, answerOf}
 use Rattle.adjust.proofs.Refused.{number-of-answer}
-use Rattle.adjust.specs.declared.Section.{Section}
 use Rattle.adjust.proofs.Lists.{from-length}
-use Rattle.adjust.proofs.Holding.{Whole, holding-own}
+use Rattle.adjust.proofs.Holding.{Whole, holding-own, holding-more}
 use Rattle.rules.specs.declared.Line.{Line}
 use Rattle.rules.specs.declared.Book.{Book}
-use Rattle.rules.specs.declared.Waiting.the-variants.{Nothing}
-use Rattle.rules.specs.Standing.{Standing, standingOf, bookWith, noRun}
-use Rattle.rules.specs.Rules.{Call, open-line, station, end-run, close-line, withRuns, withSection, bookRefusal, taken}
-use Rattle.rules.proofs.Tables.{not-broken}
-use Rattle.rules.proofs.Unbroken.{unbroken}
+use Rattle.rules.specs.declared.Waiting.{Waiting}
+use Rattle.rules.specs.declared.Waiting.the-variants.{Nothing, Outward}
+use Rattle.rules.specs.Standing.{Standing, standingOf, bookWith, isFresh, isEmpty, isReturn, outwardOrReturn, noRun, oneWay, bothWays}
+use Rattle.rules.specs.Rules.{Call, open-line, station, end-run, drop-run, drop-section, close-line, withRuns, withSection, bookRefusal, taken}
+use Rattle.rules.proofs.Tables.{book-fails, line-whole}
+use Rattle.rules.proofs.Unbroken.{SmallWaiting, Unbroken, unbroken, fresh-none}
+use Rattle.rules.proofs.Looked.{counted-broken}
 use Rattle.book.specs.declared.Change.{Change}
+use Rattle.book.specs.declared.Step.{Step}
 use Rattle.book.specs.declared.Outcome.{Outcome}
-use Rattle.book.specs.Calls.{bookAfter, outcome, Answers}
-use Rattle.book.specs.Changes.{noSection, movedTo, changeTo, changed, Leaves, Makes}
+use Rattle.book.specs.Calls.{bookAfter, stepOf, outcome, Answers}
+use Rattle.book.specs.code.Changes.{noSection, movedTo, effectOf, changeBy, changeOf, stores, storedIn, withChange, changed}
 
--- a change of the line alone leads to what has the same sections
-moved-to : (n : ℕ) (b : Book) (v : Standing) {l : Line} → l ≡ v .line → sectionsOf (b .sections) ≡ v .sections → movedTo n l ≡ changeTo n b v
-moved-to n b v l ss =
-    let long : length (v .sections) ≡ b .sections .count = ap length (sym ss) ∙ from-length (b .sections) 0 (b .sections .count) in
-    λ i. record {
-      number = n;
-      line = l i;
-      finishes = sym (le-ltb (b .sections .count) (length (v .sections)) (omega (arith, long))) i;
-      section = sym (List·getD-eq-default (v .sections) noSection {n = b .sections .count} (omega (arith, long))) i;
+-- ---- a section that is stored
+
+pub stored-sections : (s : Sections) (x : Change) → Whole s
+    → record {
+      count = cond (stores x (s .count)) (s .count + 1) (s .count);
+      numbers = storedIn x (s .count) (s .numbers) (x .section .number);
+      heights = storedIn x (s .count) (s .heights) (x .section .height);
+      distances = storedIn x (s .count) (s .distances) (x .section .distance);
+      discrepancies = storedIn x (s .count) (s .discrepancies) (x .section .discrepancy);
     }
+    ≡ withChange s x
+stored-sections s x w = go (stores x (s .count)) refl
+  where
+    go : (t : Bool) → stores x (s .count) ≡ t
+        → record {
+          count = cond t (s .count + 1) (s .count);
+          numbers = cond t (set (s .numbers) (s .count) (x .section .number)) (s .numbers);
+          heights = cond t (set (s .heights) (s .count) (x .section .height)) (s .heights);
+          distances = cond t (set (s .distances) (s .count) (x .section .distance)) (s .distances);
+          discrepancies = cond t (set (s .discrepancies) (s .count) (x .section .discrepancy)) (s .discrepancies);
+        }
+        ≡ cond t (holding s (sectionsOf s ++ (x .section ∷ []))) s
+    go true e = sym (holding-more s (x .section) w (ltb→lt (s .count) 64 (holds (and-r (x .finishes) (ltb (s .count) 64) e))))
+    go false e = refl
 
--- and keeps arrays that hold their own list
-pub leaves-moved : (b : Book) (v : Standing) → Whole (b .sections) → b .sections .count ≤ 64 → {l : Line} {x : Change}
-    → x ≡ movedTo 0 l → l ≡ v .line → sectionsOf (b .sections) ≡ v .sections → Leaves b v x
-leaves-moved b v w h m l ss = (
-  m ∙ moved-to 0 b v l ss,
-  ap (changed b) m ∙ (λ i. record { line = l i; sections = (sym (holding-own (b .sections) w h) ∙ ap (holding (b .sections)) ss) i }),
-)
+-- ---- a call that is taken finds the line unbroken
 
--- a finished section leads to what has it behind the others
-pub finishes-to : (b : Book) (x : Section) → record { number = 0; line = withRuns (b .line) Nothing noRun; finishes = true; section = x } ≡ changeTo 0 b (withSection (standingOf b) x)
-finishes-to b x =
-    let ss = sectionsOf (b .sections) in
-    let n = b .sections .count in
-    let long : length ss ≡ n = from-length (b .sections) 0 n in
-    let more = length-append ss (x ∷ []) in
-    λ i. record {
-      number = 0;
-      line = withRuns (b .line) Nothing noRun;
-      finishes = sym (lt-ltb n (length (ss ++ (x ∷ []))) (omega (arith, long, more))) i;
-      section = sym (ap (λ (k : ℕ). getD (ss ++ (x ∷ [])) k noSection) (sym long) ∙ getD-append-seam ss x [] noSection) i;
-    }
+pub whole-line : (b : Book) (c : Call) → bookRefusal (standingOf b) c ≡ 0 → Unbroken (b .line) (b .sections .count)
+whole-line b c e = unbroken (b .line) (b .sections .count) (sym (counted-broken (b .line) (b .sections)) ∙ line-whole (standingOf b) c e)
 
-module _ (b : Book) (c : Call) where
-  pub left-as-it-was : (bookRefusal (standingOf b) c ≡ 0 → ⊥) → b ≡ bookAfter b c
+-- ---- the end of a run
+
+-- what it changes, by what waits and by whether sections are levelled out and back
+abbrev pub endedBy : Line → ℤ → Waiting → Bool → Change
+endedBy l number w t =
+    let v : Standing =
+    outwardOrReturn w
+    (cond t (record { line = withRuns l (Outward number (l .present)) noRun; sections = [] }) (withSection (record { line = l; sections = [] }) (oneWay number (l .present))))
+    (λ outward run. withSection (record { line = l; sections = [] }) (bothWays outward run (l .present))) in
+    record { number = 0; line = v .line; finishes = not (isEmpty (v .sections)); section = getD (v .sections) 0 noSection }
+
+pub as-effect : (l : Line) (number : ℤ) {w : Waiting} {t : Bool} → l .waiting ≡ w → termsOf (l .opening .order) .double ≡ t → endedBy l number w t ≡ effectOf l (end-run number)
+unfolding effectOf
+as-effect l number e f = λ i. endedBy l number (sym e i) (sym f i)
+
+-- ---- the book with the change made is the book that the call leaves
+
+taken-number : (l : Line) (c : Call) → effectOf l c .number ≡ 0
+unfolding effectOf
+taken-number l c = refl
+
+module _ (b : Book) (w : Whole (b .sections)) where
+  abbrev ss : List Section
+  ss = sectionsOf (b .sections)
+
+  -- a change of the line alone keeps arrays that hold their own list
+  line-alone : (v : Standing) → b .sections .count ≤ 64 → ss ≡ v .sections → record { line = v .line; sections = b .sections } ≡ bookWith b v
+  line-alone v h e = λ i. record { line = v .line; sections = (sym (holding-own (b .sections) w h) ∙ ap (holding (b .sections)) e) i }
+
+  -- the end of a run, by what waits and by whether sections are levelled out and back
+  ended : (number : ℤ) (x : Waiting) (t : Bool) → b .sections .count < 64
+      → changed b (endedBy (b .line) number x t)
+      ≡ bookWith b (outwardOrReturn x (cond t (record { line = withRuns (b .line) (Outward number (b .line .present)) noRun; sections = ss })
+      (withSection (standingOf b) (oneWay number (b .line .present))))
+      (λ outward run. withSection (standingOf b) (bothWays outward run (b .line .present))))
+  ended number Nothing true h = line-alone (record { line = withRuns (b .line) (Outward number (b .line .present)) noRun; sections = ss }) (omega arith) refl
+  ended number Nothing false h =
+      λ i. record { line = withRuns (b .line) Nothing noRun; sections = cond (lt-ltb (b .sections .count) 64 h i) (holding (b .sections) (ss ++ (oneWay number (b .line .present) ∷ []))) (b .sections) }
+  ended number (Outward outward run) t h =
+      λ i. record { line = withRuns (b .line) Nothing noRun; sections = cond (lt-ltb (b .sections .count) 64 h i) (holding (b .sections) (ss ++ (bothWays outward run (b .line .present) ∷ []))) (b .sections) }
+
+  -- there is room for the section: an outward run is tested (31), and a run waits only where there is
+  room : (x : Waiting) → SmallWaiting x (b .sections .count) → not (isReturn x) && leb 64 (length ss) ≡ false → b .sections .count < 64
+  room Nothing h e = omega (arith, from-length (b .sections) 0 (b .sections .count), nleb→lt 64 (length ss) (fails e))
+  room (Outward outward run) h e = h .1
+
+  effect : (c : Call) → bookRefusal (standingOf b) c ≡ 0 → changed b (effectOf (b .line) c) ≡ bookWith b (taken (standingOf b) c)
+  unfolding effectOf
+  effect (open-line order instrument number height) e =
+      let c = open-line order instrument number height in
+      let fresh = not-false (isFresh (b .line .stage)) (book-fails (standingOf b) c e 21) in
+      line-alone (taken (standingOf b) c) (whole-line b c e .few) (fresh-none (b .line) ss (line-whole (standingOf b) c e) fresh)
+  effect (station kb kf readings) e = line-alone (taken (standingOf b) (station kb kf readings)) (whole-line b (station kb kf readings) e .few) refl
+  effect (end-run number) e =
+      ended number (b .line .waiting) (termsOf (b .line .opening .order) .double) (room (b .line .waiting) (whole-line b (end-run number) e .waiting) (book-fails (standingOf b) (end-run number) e 31))
+  effect drop-run e = line-alone (taken (standingOf b) drop-run) (whole-line b drop-run e .few) refl
+  effect drop-section e = line-alone (taken (standingOf b) drop-section) (whole-line b drop-section e .few) refl
+  effect (close-line number end) e = line-alone (taken (standingOf b) (close-line number end)) (whole-line b (close-line number end) e .few) refl
+
+  pub made : (c : Call) → changed b (changeOf b c) ≡ bookAfter b c
   unfolding bookAfter
-  left-as-it-was f = sym (nonzero-cond (bookRefusal (standingOf b) c) (bookWith b (taken (standingOf b) c)) b f)
+  made c =
+      let n = bookRefusal (standingOf b) c in
+      by-test (eqb n 0) (λ t. changed b (cond t (effectOf (b .line) c) (movedTo n (b .line))) ≡ cond t (bookWith b (taken (standingOf b) c)) b)
+      (λ t. effect c (eqb→eq n 0 t)) (λ t. refl)
 
-  effect-taken : bookRefusal (standingOf b) c ≡ 0 → bookWith b (taken (standingOf b) c) ≡ bookAfter b c
-  unfolding bookAfter
-  effect-taken e = sym (zero-cond (bookRefusal (standingOf b) c) (bookWith b (taken (standingOf b) c)) b e)
+  pub step-made : (c : Call) {x : Change} → x ≡ changeOf b c → record { number = x .number; book = changed b x } ≡ stepOf b c
+  step-made c e =
+      let n = bookRefusal (standingOf b) c in
+      let number = by-test (eqb n 0) (λ t. cond t (effectOf (b .line) c) (movedTo n (b .line)) .number ≡ n) (λ t. taken-number (b .line) c ∙ sym (eqb→eq n 0 t)) (λ t. refl) in
+      (λ i. record { number = e i .number; book = changed b (e i) }) ∙ (λ i. record { number = number i; book = made c i })
+
+pub left-as-it-was : (b : Book) (c : Call) → (bookRefusal (standingOf b) c ≡ 0 → ⊥) → b ≡ bookAfter b c
+unfolding bookAfter
+left-as-it-was b c f = sym (nonzero-cond (bookRefusal (standingOf b) c) (bookWith b (taken (standingOf b) c)) b f)
 
 -- ---- a call of numbers that fit, as the machine reads it back
 
@@ -91,46 +161,25 @@ close-as n e = stored-both close-line n e
 pub plain : (c : Call) → c ≡ c
 plain c = refl
 
+-- ---- what a call c, which is read back as d, changes of a line, by the number that v gives
+
+module _ (v : Standing) (l : Line) {c d : Call} (same : d ≡ c) {code : ℕ} (e : code ≡ bookRefusal v d) where
+  pub change-refused : {x : Change} → (code ≡ 0 → ⊥) → x ≡ movedTo code l → x ≡ changeBy (bookRefusal v c) l c
+  change-refused {x} f m =
+      subst (λ (k : Call). x ≡ changeBy (bookRefusal v k) l k) same
+      (m ∙ sym (nonzero-cond code (effectOf l d) (movedTo code l) f) ∙ ap (λ (n : ℕ). changeBy n l d) e)
+
+  pub change-taken : {x : Change} → code ≡ 0 → x ≡ effectOf l d → x ≡ changeBy (bookRefusal v c) l c
+  change-taken {x} z m =
+      subst (λ (k : Call). x ≡ changeBy (bookRefusal v k) l k) same
+      (m ∙ sym (zero-cond code (effectOf l d) (movedTo code l) z) ∙ ap (λ (n : ℕ). changeBy n l d) e)
+
 -- ---- what an outcome answers
 
 pub answers-as : (b : Book) (c : Call) {r : Outcome} → r ≡ outcome b c → Answers b c r
 unfolding outcome
 answers-as b c e = (e, ap (λ (o : Outcome). numberOf (o .answer)) e ∙ number-of-answer (bookRefusal (standingOf b) c))
 
--- ---- the change of a call c, which is read back as d
-
-module _ (b : Book) {c d : Call} (same : d ≡ c) where
-  pub makes-as : (x : Change) → Makes b d x → Makes b c x
-  makes-as x = subst (λ (y : Call). Makes b y x) same
-
-  module _ {code : ℕ} (e : code ≡ bookRefusal (standingOf b) d) where
-    pub makes-refused : {x : Change} → (code ≡ 0 → ⊥) → x ≡ movedTo code (b .line) → Makes b c x
-    makes-refused {x} f m =
-        let v = standingOf b in
-        let n = bookRefusal v d in
-        makes-as x (
-          m ∙ moved-to code b v refl refl ∙ (λ i. changeTo (e i) b v) ∙ ap (changeTo n b) (sym (nonzero-cond n (taken v d) v (λ z. f (e ∙ z)))),
-          ap (changed b) m ∙ left-as-it-was b d (λ z. f (e ∙ z)),
-        )
-
-    pub makes-taken : (x : Change) → code ≡ 0 → Leaves b (taken (standingOf b) d) x → Makes b c x
-    makes-taken x z l =
-        let v = standingOf b in
-        let n = bookRefusal v d in
-        makes-as x (
-          l .0 ∙ (λ i. changeTo ((sym z ∙ e) i) b (taken v d)) ∙ ap (changeTo n b) (sym (zero-cond n (taken v d) v (sym e ∙ z))),
-          l .1 ∙ effect-taken b d (sym e ∙ z),
-        )
-
-    -- of the line alone
-    pub makes-moved : {x : Change} {l : Line} → Whole (b .sections) → code ≡ 0 → x ≡ movedTo 0 l → l ≡ taken (standingOf b) d .line
-        → sectionsOf (b .sections) ≡ taken (standingOf b) d .sections → Makes b c x
-    makes-moved {x} w z m l ss =
-        let v = standingOf b in
-        makes-taken x z (leaves-moved b (taken v d) w (unbroken b (not-broken v d (sym e ∙ z)) .few) m l ss)
-
-  pub makes-outcome : (x : Change) → Makes b d x → {r : Outcome} → r ≡ record { answer = answerOf (x .number); book = changed b x } → Answers b c r
-  unfolding outcome
-  makes-outcome x m e =
-      let n = makes-as x m in
-      answers-as b c (e ∙ (λ i. record { answer = answerOf (n .0 i .number); book = n .1 i }))
+pub step-answers : (b : Book) {c d : Call} → d ≡ c → {s : Step} {r : Outcome} → s ≡ stepOf b d → r ≡ record { answer = answerOf (s .number); book = s .book } → Answers b c r
+unfolding outcome
+step-answers b {c} same t e = answers-as b c (e ∙ ap (λ (x : Step). record { answer = answerOf (x .number); book = x .book }) (t ∙ ap (stepOf b) same))

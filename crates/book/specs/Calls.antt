@@ -8,22 +8,24 @@ use lib.ListN.{take}
 use lib.Dec.{eqb}
 use lib.IntN.{ℤ, pos}
 use Rattle.numbers.specs.Whole.{filled}
+use Rattle.numbers.specs.Tables.{firstOf}
 use Rattle.station.specs.declared.Order.the-variants.{Fourth}
 use Rattle.station.specs.declared.Instrument.the-variants.{Ds3}
 use Rattle.adjust.specs.declared.Summary.{Summary}
-use Rattle.adjust.specs.declared.Adjusted.{Adjusted}
-use Rattle.adjust.specs.Sections.{sectionsOf}
+use Rattle.adjust.specs.declared.Point.{Point}
 use Rattle.adjust.specs.Line.{Closing, closing}
-use Rattle.adjust.specs.Frames.{noPoint, adjustedOf, nothing, adjustedIfFit}
+use Rattle.adjust.specs.Frames.{noPoint}
 use Rattle.adjust.specs.Call.{numberOf, answerOf}
 use Rattle.rules.specs.declared.Stage.the-variants.{Fresh}
 use Rattle.rules.specs.declared.Waiting.the-variants.{Nothing}
 use Rattle.rules.specs.declared.Book.{Book}
-use Rattle.rules.specs.Standing.{standingOf, bookWith, isClosed, noRun}
-use Rattle.rules.specs.Rules.{Call, close-line, bookRefusal, taken}
+use Rattle.rules.specs.Standing.{Standing, standingOf, bookWith, noRun}
+use Rattle.rules.specs.Rules.{Call, figuresTests, bookRefusal, taken}
+use Rattle.book.specs.declared.Step.{Step}
 use Rattle.book.specs.declared.Outcome.{Outcome}
 use Rattle.book.specs.declared.CloseAnswer.{CloseAnswer}
 use Rattle.book.specs.declared.CloseAnswer.the-variants.{Closed, NotClosed}
+use Rattle.book.specs.declared.ClosedFigures.{ClosedFigures}
 use Rattle.book.specs.declared.CloseOutcome.{CloseOutcome}
 
 abbrev pub freshBook : Book
@@ -32,9 +34,7 @@ freshBook =
       line =
           record {
             stage = Fresh;
-            order = Fourth;
-            instrument = Ds3;
-            start = record { number = pos 0; height = pos 0 };
+            opening = record { order = Fourth; instrument = Ds3; start = record { number = pos 0; height = pos 0 } };
             end = pos 0;
             waiting = Nothing;
             present = noRun;
@@ -46,6 +46,10 @@ freshBook =
 unfoldable pub bookAfter : Book → Call → Book
 bookAfter b c = cond (eqb (bookRefusal (standingOf b) c) 0) (bookWith b (taken (standingOf b) c)) b
 
+-- what any call answers, by document 01's number, and the book that it leaves
+abbrev pub stepOf : Book → Call → Step
+stepOf b c = record { number = bookRefusal (standingOf b) c; book = bookAfter b c }
+
 -- a call but closing
 unfoldable pub outcome : Book → Call → Outcome
 outcome b c = record { answer = answerOf (bookRefusal (standingOf b) c); book = bookAfter b c }
@@ -56,9 +60,9 @@ Answers b c r = (r ≡ outcome b c) × (numberOf (r .answer) ≡ bookRefusal (st
 
 -- ---- closing
 
--- the figures of closing the book's line on the height `end`
-abbrev pub closingOf : Book → ℤ → Closing
-closingOf b end = closing (b .line .order) (b .line .start) end (sectionsOf (b .sections))
+-- the figures of a line on the end height that it has
+abbrev pub closingOf : Standing → Closing
+closingOf v = closing (v .line .opening) (v .line .end) (v .sections)
 
 -- document 01's number of a closing's answer, and its values: W, L, n, T and the verdict
 abbrev pub closeNumber : CloseAnswer → ℕ
@@ -73,28 +77,43 @@ closeValues (NotClosed n) = []
 abbrev pub closeAnswerOf : ℕ → Summary → CloseAnswer
 closeAnswerOf n summary = cond (eqb n 0) (Closed summary) (NotClosed n)
 
--- of a refused closing the points beside the answer are none
-unfoldable pub closeOutcome : Book → ℤ → ℤ → CloseOutcome
-closeOutcome b number end =
-    let n : ℕ = bookRefusal (standingOf b) (close-line number end) in
-    record {
-      answer = closeAnswerOf n (closingOf b end .summary);
-      book = bookAfter b (close-line number end);
-      points = filled noPoint 65 (cond (eqb n 0) (closingOf b end .points) []);
-    }
+-- with the points, which are none beside a refusal
+abbrev pub closeFigures : ℕ → Closing → ClosedFigures
+closeFigures n gave = record { answer = closeAnswerOf n (gave .summary); points = filled noPoint 65 (cond (eqb n 0) (gave .points) []) }
+
+-- what a closing leads to where it is taken
+abbrev pub closedBy : Book → Call → Closing
+closedBy b c = closingOf (taken (standingOf b) c)
+
+unfoldable pub closeOutcome : Book → Call → CloseOutcome
+closeOutcome b c =
+    let f : ClosedFigures = closeFigures (bookRefusal (standingOf b) c) (closedBy b c) in
+    record { answer = f .answer; book = bookAfter b c; points = f .points }
 
 -- r is that outcome, and its answer has, by `closeNumber` and `closeValues`, document 01's number and values
-abbrev pub Closes : Book → ℤ → ℤ → CloseOutcome → Type 0
-Closes b number end r =
-    let n : ℕ = bookRefusal (standingOf b) (close-line number end) in
-    (r ≡ closeOutcome b number end)
-    × ((closeNumber (r .answer) ≡ n) × (closeValues (r .answer) ≡ cond (eqb n 0) (closingOf b end .summary ∷ []) []))
+abbrev pub Closes : Book → Call → CloseOutcome → Type 0
+Closes b c r =
+    let n : ℕ = bookRefusal (standingOf b) c in
+    (r ≡ closeOutcome b c) × ((closeNumber (r .answer) ≡ n) × (closeValues (r .answer) ≡ cond (eqb n 0) (closedBy b c .summary ∷ []) []))
 
--- what a closing gave: its values and its n + 1 points
-abbrev pub gaveOf : CloseOutcome → List Closing
-gaveOf o = map (λ (s : Summary). record { summary = s; points = take (s .count + 1) (o .points) }) (closeValues (o .answer))
+-- the closing whose points an array holds in its first n + 1 places
+abbrev pub closingIn : Summary → List Point → Closing
+closingIn s ps = record { summary = s; points = take (s .count + 1) ps }
 
--- ---- the figures of a closed book, and none of another
+-- what was given by an answer and the points beside it
+abbrev pub gaveOf : CloseAnswer → List Point → List Closing
+gaveOf a ps = map (λ (s : Summary). closingIn s ps) (closeValues a)
 
-unfoldable pub figuresOf : Book → Adjusted
-figuresOf b = cond (isClosed (b .line .stage)) (adjustedIfFit (b .line .order) (b .line .start) (b .line .end) (sectionsOf (b .sections))) (adjustedOf nothing)
+-- ---- the figures of a closed book
+
+abbrev pub figuresRefusal : Book → ℕ
+figuresRefusal b = firstOf (figuresTests (standingOf b))
+
+unfoldable pub figuresOf : Book → ClosedFigures
+figuresOf b = closeFigures (figuresRefusal b) (closingOf (standingOf b))
+
+-- r is these, and its answer has document 01's number and values
+abbrev pub Tells : Book → ClosedFigures → Type 0
+Tells b r =
+    let n : ℕ = figuresRefusal b in
+    (r ≡ figuresOf b) × ((closeNumber (r .answer) ≡ n) × (closeValues (r .answer) ≡ cond (eqb n 0) (closingOf (standingOf b) .summary ∷ []) []))

@@ -1,22 +1,33 @@
 // The calls of a book. Each gives its answer and the book after it; a refused call leaves the very book.
 ghost use mathlib.Core.Path.{_≡_};
 ghost use Rattle.adjust.specs.Call.{answerOf};
-ghost use Rattle.rules.specs.Rules.{open-line, station, end-run, drop-run, drop-section};
+ghost use Rattle.rules.specs.Rules.{open-line, station, end-run, drop-run, drop-section, close-line};
+ghost use mathlib.Core.Bool.{true};
 ghost use mathlib.Core.List.{[]};
 ghost use Rattle.numbers.specs.Whole.{filled};
-ghost use Rattle.adjust.specs.Frames.{noPoint};
-ghost use Rattle.book.specs.Calls.{Answers, Closes, figuresOf};
-ghost use Rattle.book.specs.Changes.{changed};
+ghost use Rattle.adjust.specs.Sections.{sectionsOf};
+ghost use Rattle.adjust.specs.Line.{closing};
+ghost use Rattle.adjust.specs.Frames.{noPoint, figuresFit};
+ghost use Rattle.book.specs.declared.CloseAnswer.the-variants.{NotClosed};
+ghost use Rattle.rules.specs.Records.{callOf};
+ghost use Rattle.book.specs.Calls.{stepOf, Answers, closeFigures, Closes, Tells};
+ghost use Rattle.book.specs.code.Changes.{changed};
 use super::Change;
 use super::CloseAnswer;
 use super::CloseOutcome;
+use super::ClosedFigures;
 use super::Outcome;
-use super::changes;
-use adjust::Adjusted;
+use super::Step;
+use super::decisions::decide;
+use super::decisions::station_change;
+use super::storing::change;
 use adjust::Answer;
-use adjust::Point;
+use adjust::LineSummary;
+use adjust::Opening;
+use adjust::Sections;
+use records::Tag;
 use rules::Book;
-use rules::state::is_closed;
+use rules::closing::figures_refusal;
 
 fn answer_of(code: u8) -> Answer
     ensures { λ r. ⌜ r ≡ answerOf code ⌝ }
@@ -28,13 +39,40 @@ fn answer_of(code: u8) -> Answer
     }
 }
 
-fn outcome_of(b: Book, c: Change) -> Outcome
-    ensures { λ r. ⌜ r ≡ record { answer = answerOf (c .number); book = changed b c } ⌝ }
+// A change that is made of a book.
+fn step_of(b: Book, c: Change) -> Step
+    ensures { λ r. ⌜ r ≡ record { number = c .number; book = changed b c } ⌝ }
 {
-    let answer = answer_of(c.number);
-    let book = changes::change(b, c);
+    let book = change(b, c);
+    Step {
+        number: c.number,
+        book: book,
+    }
+}
+
+// One record of a line's book: what any call answers and leaves, whatever its numbers.
+pub fn take(b: Book, tag: Tag, v: [i64; 10]) -> Step
+    ensures { λ r. ⌜ r ≡ stepOf b (callOf tag v) ⌝ }
+{
+    let c = decide(
+        b.line,
+        b.sections.count,
+        &b.sections.numbers,
+        &b.sections.heights,
+        &b.sections.distances,
+        &b.sections.discrepancies,
+        tag,
+        v,
+    );
+    step_of(b, c)
+}
+
+fn outcome_of(s: Step) -> Outcome
+    ensures { λ r. ⌜ r ≡ record { answer = answerOf (s .number); book = s .book } ⌝ }
+{
+    let book = s.book;
     Outcome {
-        answer: answer,
+        answer: answer_of(s.number),
         book: book,
     }
 }
@@ -43,88 +81,111 @@ fn outcome_of(b: Book, c: Change) -> Outcome
 pub fn open(b: Book, order: i64, instrument: i64, number: i64, height: i64) -> Outcome
     ensures { λ r. ⌜ Answers b (open-line order instrument number height) r ⌝ }
 {
-    outcome_of(b, changes::open(b, order, instrument, number, height))
+    let v = [order, instrument, number, height, 0, 0, 0, 0, 0, 0];
+    outcome_of(take(b, Tag::Lin, v))
 }
 
 // A station: the constants and the readings, back and fore.
 pub fn station(b: Book, kb: i64, kf: i64, readings: [[i64; 4]; 2]) -> Outcome
     ensures { λ r. ⌜ Answers b (station kb kf readings) r ⌝ }
 {
-    outcome_of(b, changes::station(b, kb, kf, readings))
+    let c = station_change(
+        b.line,
+        b.sections.count,
+        &b.sections.numbers,
+        kb,
+        kf,
+        readings,
+    );
+    outcome_of(step_of(b, c))
 }
 
 // End the present run on a benchmark.
 pub fn end_run(b: Book, number: i64) -> Outcome
     ensures { λ r. ⌜ Answers b (end-run number) r ⌝ }
 {
-    outcome_of(b, changes::end_run(b, number))
+    outcome_of(take(b, Tag::Run, [number, 0, 0, 0, 0, 0, 0, 0, 0, 0]))
 }
 
 // Empty the present run.
 pub fn drop_run(b: Book) -> Outcome
     ensures { λ r. ⌜ Answers b drop-run r ⌝ }
 {
-    outcome_of(b, changes::drop_run(b))
+    outcome_of(take(b, Tag::Drr, [0; 10]))
 }
 
 // Empty the present run and what waits for its return.
 pub fn drop_section(b: Book) -> Outcome
     ensures { λ r. ⌜ Answers b drop-section r ⌝ }
 {
-    outcome_of(b, changes::drop_section(b))
+    outcome_of(take(b, Tag::Drs, [0; 10]))
 }
 
-fn no_points() -> [Point; 65]
-    ensures { λ r. ⌜ r ≡ filled noPoint 65 [] ⌝ }
+// No figures, but a refusal.
+fn not_closed(code: u8) -> ClosedFigures
+    ensures { λ r. ⌜ r ≡ record { answer = NotClosed code; points = filled noPoint 65 [] } ⌝ }
 {
-    let none = Point {
-        number: 0,
-        distance: 0,
-        correction: 0,
-        height: 0,
-    };
-    [none; 65]
+    let none = adjust::no_points();
+    ClosedFigures {
+        answer: CloseAnswer::NotClosed(code),
+        points: none,
+    }
+}
+
+// The figures of a line between two known heights, where they fit.
+fn figures_between(opening: Opening, end: i64, s: Sections) -> ClosedFigures
+    requires { ⌜ figuresFit (opening .start .height) end (sectionsOf s) ≡ true ⌝ }
+    ensures { λ r. ⌜ r ≡ closeFigures 0 (closing opening end (sectionsOf s)) ⌝ }
+{
+    let figures = adjust::adjusted_line(opening, end, s);
+    let answer = figures.answer;
+    let points = figures.points;
+    match answer {
+        LineSummary::Adjusted(summary) => ClosedFigures {
+            answer: CloseAnswer::Closed(summary),
+            points: points,
+        },
+        LineSummary::NotAdjusted => not_closed(20),
+    }
 }
 
 // Close the line on its last benchmark, whose known height is end.
 pub fn close_line(b: Book, number: i64, end: i64) -> CloseOutcome
-    ensures { λ r. ⌜ Closes b number end r ⌝ }
+    ensures { λ r. ⌜ Closes b (close-line number end) r ⌝ }
 {
-    let c = changes::close_line(b, number, end);
-    if c.number != 0 {
-        let none = no_points();
+    let s = take(b, Tag::End, [number, end, 0, 0, 0, 0, 0, 0, 0, 0]);
+    if s.number != 0 {
+        let none = adjust::no_points();
         return CloseOutcome {
-            answer: CloseAnswer::NotClosed(c.number),
+            answer: CloseAnswer::NotClosed(s.number),
             book: b,
             points: none,
         };
     }
     let line = b.line;
-    let order = line.order;
-    let start = line.start;
+    let opening = line.opening;
     let sections = b.sections;
-    let figures = adjust::adjusted_line(order, start, end, sections);
-    let summary = figures.summary;
+    let figures = figures_between(opening, end, sections);
+    let answer = figures.answer;
     let points = figures.points;
-    let next = changes::change(b, c);
+    let next = s.book;
     CloseOutcome {
-        answer: CloseAnswer::Closed(summary),
+        answer: answer,
         book: next,
         points: points,
     }
 }
 
-// The figures of a closed book once more; zeros for another, and for a record whose sections or heights are out of range.
-pub fn figures_of(b: Book) -> Adjusted
-    ensures { λ r. ⌜ r ≡ figuresOf b ⌝ }
+// The figures of a closed book once more. A book that is not closed is refused with 21, a broken one with 20.
+pub fn figures_of(b: Book) -> ClosedFigures
+    ensures { λ r. ⌜ Tells b r ⌝ }
 {
     let line = b.line;
     let sections = b.sections;
-    let stage = line.stage;
-    let order = line.order;
-    let start = line.start;
-    if is_closed(stage) {
-        return adjust::adjusted_line(order, start, line.end, sections);
+    let code = figures_refusal(line, sections);
+    if code != 0 {
+        return not_closed(code);
     }
-    adjust::no_line()
+    let opening = line.opening;
+    figures_between(opening, line.end, sections)
 }

@@ -1,20 +1,19 @@
 // What a call that is taken leaves of the line, and the section that it finishes.
 ghost use mathlib.Core.Path.{_≡_};
-ghost use mathlib.Core.Bool.{cond};
-ghost use Prim.Native.Nat.{_<_};
-ghost use Rattle.adjust.specs.Sections.{sectionsOf};
-ghost use Rattle.station.specs.Bounds.{Small};
-ghost use Rattle.rules.specs.declared.Waiting.the-variants.{Nothing, Outward};
-ghost use Rattle.rules.specs.Standing.{standingOf, noRun, withStation, oneWay, bothWays, twoWay};
-ghost use Rattle.rules.specs.Rules.{end-run, orderOf, instrumentOf, withRuns, withSection, closedAt, bookRefusal, taken};
+ghost use mathlib.Core.Bool.{true};
+ghost use Rattle.station.specs.code.Bounds.{Small};
+ghost use Rattle.rules.specs.declared.Waiting.the-variants.{Nothing};
+ghost use Rattle.rules.specs.Standing.{noRun, withStation, oneWay, bothWays};
+ghost use Rattle.rules.specs.Rules.{end-run, orderOf, instrumentOf, openingOf, withRuns, closedAt};
 ghost use Rattle.rules.specs.Rules as Rules;
-ghost use Rattle.rules.specs.Bounds.{SmallRun};
-ghost use Rattle.book.specs.Changes.{Leaves};
+ghost use Rattle.rules.specs.code.Bounds.{SmallRun, SmallRuns};
+ghost use Rattle.book.specs.code.Changes.{effectOf};
 use super::Change;
-use super::changes::moved;
+use super::decisions::moved;
 use adjust::Benchmark;
+use adjust::Opening;
 use adjust::Section;
-use rules::Book;
+use adjust::terms::terms_of;
 use rules::Line;
 use rules::Run;
 use rules::Stage;
@@ -40,14 +39,10 @@ fn with_runs(line: Line, waiting: Waiting, present: Run) -> Line
     ensures { λ r. ⌜ r ≡ withRuns line waiting present ⌝ }
 {
     let stage = line.stage;
-    let order = line.order;
-    let instrument = line.instrument;
-    let start = line.start;
+    let opening = line.opening;
     Line {
         stage: stage,
-        order: order,
-        instrument: instrument,
-        start: start,
+        opening: opening,
         end: line.end,
         waiting: waiting,
         present: present,
@@ -72,18 +67,27 @@ fn instrument_of(n: i64) -> Instrument
     }
 }
 
-pub(crate) fn opened(order: i64, instrument: i64, number: i64, height: i64) -> Line
-    ensures { λ r. ⌜ r ≡ Rules.opened order instrument number height ⌝ }
+pub(crate) fn opening_of(order: i64, instrument: i64, number: i64, height: i64) -> Opening
+    ensures { λ r. ⌜ r ≡ openingOf order instrument number height ⌝ }
 {
     let start = Benchmark {
         number: number,
         height: height,
     };
-    Line {
-        stage: Stage::Open,
+    Opening {
         order: order_of(order),
         instrument: instrument_of(instrument),
         start: start,
+    }
+}
+
+// An open line with nothing in it.
+pub(crate) fn begun(opening: Opening) -> Line
+    ensures { λ r. ⌜ r ≡ Rules.begun opening ⌝ }
+{
+    Line {
+        stage: Stage::Open,
+        opening: opening,
         end: 0,
         waiting: Waiting::Nothing,
         present: no_run(),
@@ -136,11 +140,9 @@ fn both_ways(number: i64, out: Run, back: Run) -> Section
 }
 
 // A section is finished: nothing waits any more, and the next run begins.
-fn finished(b: Book, section: Section) -> Change
-    requires { ⌜ b .sections .count < 64 ⌝ }
-    ensures { λ r. ⌜ Leaves b (withSection (standingOf b) section) r ⌝ }
+fn finished(line: Line, section: Section) -> Change
+    ensures { λ r. ⌜ r ≡ record { number = 0; line = withRuns line Nothing noRun; finishes = true; section = section } ⌝ }
 {
-    let line = b.line;
     Change {
         number: 0,
         line: with_runs(line, Waiting::Nothing, no_run()),
@@ -149,33 +151,33 @@ fn finished(b: Book, section: Section) -> Change
     }
 }
 
-// An outward run ends: at third order it waits, at fourth it is a section.
-fn outward_ended(b: Book, number: i64) -> Change
-    requires { ⌜ SmallRun (b .line .present) × (b .sections .count < 64) ⌝ }
-    ensures { λ r. ⌜ Leaves b (cond (twoWay (b .line .order)) (record { line = withRuns (b .line) (Outward number (b .line .present)) noRun; sections = sectionsOf (b .sections) }) (withSection (standingOf b) (oneWay number (b .line .present)))) r ⌝ }
+// An outward run ends: it waits where sections are levelled out and back, and is a section where they are levelled one way.
+fn outward_ended(line: Line, number: i64) -> Change
+    requires { ⌜ SmallRun (line .present) × (line .waiting ≡ Nothing) ⌝ }
+    ensures { λ r. ⌜ r ≡ effectOf line (end-run number) ⌝ }
 {
-    let line = b.line;
-    let order = line.order;
+    let opening = line.opening;
+    let order = opening.order;
     let present = line.present;
-    match order {
-        Order::Third => moved(
+    let terms = terms_of(order);
+    if terms.double {
+        return moved(
             0,
             with_runs(line, Waiting::Outward(number, present), no_run()),
-        ),
-        Order::Fourth => finished(b, one_way(number, present)),
+        );
     }
+    finished(line, one_way(number, present))
 }
 
-pub(crate) fn run_ended(b: Book, number: i64) -> Change
-    requires { ⌜ bookRefusal (standingOf b) (end-run number) ≡ 0 ⌝ }
-    ensures { λ r. ⌜ Leaves b (taken (standingOf b) (end-run number)) r ⌝ }
+pub(crate) fn run_ended(line: Line, number: i64) -> Change
+    requires { ⌜ SmallRuns (line .waiting) (line .present) ⌝ }
+    ensures { λ r. ⌜ r ≡ effectOf line (end-run number) ⌝ }
 {
-    let line = b.line;
     let waiting = line.waiting;
     let present = line.present;
     match waiting {
-        Waiting::Nothing => outward_ended(b, number),
-        Waiting::Outward(outward, run) => finished(b, both_ways(outward, run, present)),
+        Waiting::Nothing => outward_ended(line, number),
+        Waiting::Outward(outward, run) => finished(line, both_ways(outward, run, present)),
     }
 }
 
@@ -199,16 +201,12 @@ pub(crate) fn section_dropped(line: Line) -> Line
 pub(crate) fn closed(line: Line, end: i64) -> Line
     ensures { λ r. ⌜ r ≡ closedAt line end ⌝ }
 {
-    let order = line.order;
-    let instrument = line.instrument;
-    let start = line.start;
+    let opening = line.opening;
     let waiting = line.waiting;
     let present = line.present;
     Line {
         stage: Stage::Closed,
-        order: order,
-        instrument: instrument,
-        start: start,
+        opening: opening,
         end: end,
         waiting: waiting,
         present: present,

@@ -3,6 +3,7 @@ ghost use mathlib.Core.Path.{_≡_};
 ghost use Rattle.book.specs.Calls.{freshBook};
 use adjust::Answer;
 use adjust::Benchmark;
+use adjust::Opening;
 use adjust::Point;
 use adjust::Section;
 use adjust::Sections;
@@ -16,8 +17,9 @@ use station::Instrument;
 use station::Order;
 
 pub mod calls;
-pub mod changes;
+pub mod decisions;
 mod effects;
+pub mod storing;
 
 // What a call makes of a book: document 01's number, 0 where the call is taken; the line that it leaves; whether it finishes a section, and which.
 // It holds no array.
@@ -28,7 +30,13 @@ pub struct Change {
     pub section: Section,
 }
 
-// What a call answers, and the book that it leaves: the very book where it is refused.
+// What any call answers, by document 01's number, and the book that it leaves: the very book where it is refused.
+pub struct Step {
+    pub number: u8,
+    pub book: Book,
+}
+
+// The same of a call but closing, its answer by its case.
 pub struct Outcome {
     pub answer: Answer,
     pub book: Book,
@@ -40,7 +48,13 @@ pub enum CloseAnswer {
     NotClosed(u8),
 }
 
-// And the book that it leaves, with the points: the start and one for each section, zeros behind them.
+// The figures of a closed line: that answer, with the points: the start and one for each section, zeros behind them; none where there are no values.
+pub struct ClosedFigures {
+    pub answer: CloseAnswer,
+    pub points: [Point; 65],
+}
+
+// And the book that closing leaves.
 pub struct CloseOutcome {
     pub answer: CloseAnswer,
     pub book: Book,
@@ -62,11 +76,14 @@ pub fn fresh() -> Book
         number: 0,
         height: 0,
     };
-    let line = Line {
-        stage: Stage::Fresh,
+    let opening = Opening {
         order: Order::Fourth,
         instrument: Instrument::Ds3,
         start: start,
+    };
+    let line = Line {
+        stage: Stage::Fresh,
+        opening: opening,
         end: 0,
         waiting: Waiting::Nothing,
         present: none,

@@ -1,38 +1,33 @@
--- `close_line` meets its contract: a closing that is taken has figures that fit, so they are those of the formulas.
+-- `close_line` meets its contract: refused with its number, or the figures of the line.
 use mathlib.Core.Path.{_≡_, sym, ap, _∙_}
-use mathlib.Core.List.{[]}
 use lib.IntN.{ℤ}
-use Rattle.numbers.specs.Whole.{filled}
-use Rattle.numbers.proofs.Tables.{zero-cond, nonzero-cond}
 use Rattle.numbers.proofs.Machine.{stored-id}
-use Rattle.adjust.specs.declared.Adjusted.{Adjusted}
 use Rattle.adjust.specs.Sections.{sectionsOf}
-use Rattle.adjust.specs.Frames.{noPoint, adjustedOf, adjustedIfFit}
+use Rattle.adjust.specs.Line.{closing}
+use Rattle.adjust.specs.Frames.{figuresFit}
 use Rattle.rules.specs.Standing.{standingOf}
 use Rattle.rules.specs.Rules.{Call, close-line, bookRefusal}
-use Rattle.book.specs.declared.Change.{Change}
-use Rattle.book.specs.declared.CloseAnswer.the-variants.{Closed, NotClosed}
-use Rattle.book.specs.Calls.{closingOf, closeOutcome}
-use Rattle.book.specs.Changes.{Makes}
-use Rattle.book.proofs.Joined.{close-as, makes-as, left-as-it-was}
-use Rattle.book.proofs.Closable.{closes, formulas}
+use Rattle.book.specs.declared.Step.{Step}
+use Rattle.book.specs.declared.CloseAnswer.the-variants.{NotClosed}
+use Rattle.book.specs.declared.ClosedFigures.{ClosedFigures}
+use Rattle.book.specs.Calls.{stepOf, closedBy, closeFigures, closeOutcome}
+use Rattle.book.proofs.Joined.{close-as, left-as-it-was}
+use Rattle.book.proofs.Closable.{given, none-given, closes, closing-fits}
 use borrow.Author.Needs.{needs}
 use Rattle.book.proofs.calls.close_line.Statement.{statement}
 use Rattle.book.proofs.calls.close_line.Tie as tie
 
-close-line-requires : tie.Need-close-line-requires
-close-line-requires c κs = search needs
+take-requires : tie.Need-take-requires
+take-requires c κs = search needs
 
 abbrev call : tie.Start → Call
 call s = close-line (s .args .number) (s .args .end)
 
-makes : (m : tie.After-close-line) → Makes (m .before .args .b) (call (m .before)) (m .close-line .result)
-makes m = let s = m .before in makes-as (s .args .b) (close-as (s .fits .number) (s .fits .end)) (m .close-line .result) (m .close-line .ensures)
+steps : (m : tie.After-take) → m .take .result ≡ stepOf (m .before .args .b) (call (m .before))
+steps m = let s = m .before in m .take .ensures ∙ ap (stepOf (s .args .b)) (close-as (s .fits .number) (s .fits .end))
 
-number : (m : tie.After-close-line) → m .close-line .result .number ≡ bookRefusal (standingOf (m .before .args .b)) (call (m .before))
-number m = ap (λ (x : Change). x .number) (makes m .0)
-
--- ---- refused
+number : (m : tie.After-take) → m .take .result .number ≡ bookRefusal (standingOf (m .before .args .b)) (call (m .before))
+number m = ap (λ (x : Step). x .number) (steps m)
 
 no-points-requires : tie.Need-no-points-requires
 no-points-requires c κs = search needs
@@ -46,60 +41,37 @@ returns c =
     let b = s .args .b in
     let n = bookRefusal (standingOf b) (call s) in
     let f : n ≡ 0 → ⊥ = λ z. t .if1 .taken (number m ∙ z) in
-    closes b (s .args .number) (s .args .end) (λ i. record {
-      answer = (ap NotClosed (number m) ∙ sym (nonzero-cond n (Closed (closingOf b (s .args .end) .summary)) (NotClosed n) f)) i;
-      book = left-as-it-was b (call s) f i;
-      points = (c .no-points .ensures ∙ ap (filled noPoint 65) (sym (nonzero-cond n (closingOf b (s .args .end) .points) [] f))) i;
-    })
-
--- ---- taken
-
-adjusted-line-requires : tie.Need-adjusted-line-requires
-adjusted-line-requires c κs = search needs
-
--- the place after the refusal
-abbrev passed : tie.After-adjusted-line → tie.Else1
-passed c = c .before .before .before .before
+    let none = (λ i. record { answer = NotClosed (m .take .result .number); points = c .no-points .ensures i }) ∙ none-given n (closedBy b (call s)) f (number m) in
+    closes b (call s) (λ i. record { answer = none i .answer; book = left-as-it-was b (call s) f i; points = none i .points })
 
 taken : (e : tie.Else1) → bookRefusal (standingOf (e .before .before .before .args .b)) (call (e .before .before .before)) ≡ 0
 taken e = sym (number (e .before .before)) ∙ e .if1 .left
 
-figures : (c : tie.After-adjusted-line)
-    → c .adjusted-line .result ≡ adjustedOf (closingOf (passed c .before .before .before .args .b) (passed c .before .before .before .args .end))
-figures c =
-    let e = passed c in
+figures-between-requires : tie.Need-figures-between-requires
+figures-between-requires c κs =
+    let e = c .before .before .before in
     let s = e .before .before .before in
     let b = s .args .b in
-    c .adjusted-line .ensures
-    ∙ ap (λ (z : ℤ). adjustedIfFit (b .line .order) (b .line .start) z (sectionsOf (b .sections))) (stored-id (s .fits .end))
-    ∙ formulas b (s .args .number) (s .args .end) (taken e)
-
-change-requires : tie.Need-change-requires
-change-requires c κs = search needs
+    ap (λ (z : ℤ). figuresFit (b .line .opening .start .height) z (sectionsOf (b .sections))) (stored-id (s .fits .end)) ∙ closing-fits b (s .args .number) (s .args .end) (taken e)
 
 returns-2 : tie.Need-returns-2
 unfolding closeOutcome
 returns-2 c =
-    let f = c .before .before .before in
-    let e = passed f in
+    let f = c .before .before in
+    let e = f .before .before .before .before in
     let m = e .before .before in
     let s = m .before in
     let b = s .args .b in
-    let n = bookRefusal (standingOf b) (call s) in
-    let gave = closingOf b (s .args .end) in
-    closes b (s .args .number) (s .args .end) (λ i. record {
-      answer = (ap (λ (a : Adjusted). Closed (a .summary)) (figures f) ∙ sym (zero-cond n (Closed (gave .summary)) (NotClosed n) (taken e))) i;
-      book = (c .change .ensures ∙ makes m .1) i;
-      points = (ap (λ (a : Adjusted). a .points) (figures f) ∙ ap (filled noPoint 65) (sym (zero-cond n (gave .points) [] (taken e)))) i;
-    })
+    let gave = f .figures-between .ensures ∙ ap (λ (z : ℤ). closeFigures 0 (closing (b .line .opening) z (sectionsOf (b .sections)))) (stored-id (s .fits .end))
+    ∙ given (bookRefusal (standingOf b) (call s)) (closedBy b (call s)) (taken e) in
+    closes b (call s) (λ i. record { answer = gave i .answer; book = steps m i .book; points = gave i .points })
 
 pub close-line-spec : {M : Type 1} → statement M
 close-line-spec =
     tie.close
     (tie.spec
-    close-line-requires
+    take-requires
     no-points-requires
     returns
-    adjusted-line-requires
-    change-requires
+    figures-between-requires
     returns-2)

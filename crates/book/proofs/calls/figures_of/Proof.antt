@@ -1,53 +1,63 @@
--- `figures_of` meets its contract, by whether the book is closed.
+-- `figures_of` meets its contract: refused with its number, or the figures.
 use mathlib.Core.Path.{_≡_, sym, ap, _∙_}
-use mathlib.Core.Bool.{Bool, true, false, cond}
 use lib.IntN.{ℤ}
 use mir.Syntax.{w64}
 use mir.Val.{SFits}
 use Rattle.numbers.proofs.Machine.{stored-id}
 use Rattle.adjust.specs.Sections.{sectionsOf}
-use Rattle.adjust.specs.Frames.{adjustedOf, nothing, adjustedIfFit}
-use Rattle.rules.specs.declared.Book.{Book}
-use Rattle.rules.specs.Standing.{isClosed}
-use Rattle.book.specs.Calls.{figuresOf}
+use Rattle.adjust.specs.Line.{closing}
+use Rattle.adjust.specs.Frames.{figuresFit}
+use Rattle.rules.specs.Standing.{standingOf}
+use Rattle.book.specs.Calls.{closingOf, closeFigures, figuresRefusal, figuresOf}
+use Rattle.book.proofs.Closable.{given, none-given, tells, closed-fits}
 use borrow.Author.Needs.{needs}
 use Rattle.book.proofs.calls.figures_of.Statement.{statement}
 use Rattle.book.proofs.calls.figures_of.Tie as tie
 
-is-closed-requires : tie.Need-is-closed-requires
-is-closed-requires c κs = search needs
+figures-refusal-requires : tie.Need-figures-refusal-requires
+figures-refusal-requires c κs = search needs
 
-adjusted-line-requires : tie.Need-adjusted-line-requires
-adjusted-line-requires c κs = search needs
+not-closed-requires : tie.Need-not-closed-requires
+not-closed-requires c κs = search needs
+
+returns : tie.Need-returns
+unfolding figuresOf
+returns c =
+    let t = c .before in
+    let k = t .before in
+    let b = k .before .before .before .args .b in
+    let n = k .figures-refusal .ensures in
+    tells b (c .not-closed .ensures ∙ none-given (figuresRefusal b) (closingOf (standingOf b)) (λ z. t .if1 .taken (n ∙ z)) n)
 
 end-fits : (s : tie.Start) → SFits w64 (s .args .b .line .end)
 end-fits s = search needs
 
-chosen : (b : Book) (t : Bool) → isClosed (b .line .stage) ≡ t
-    → cond t (adjustedIfFit (b .line .order) (b .line .start) (b .line .end) (sectionsOf (b .sections))) (adjustedOf nothing) ≡ figuresOf b
-unfolding figuresOf
-chosen b t e = ap (λ (x : Bool). cond x (adjustedIfFit (b .line .order) (b .line .start) (b .line .end) (sectionsOf (b .sections))) (adjustedOf nothing)) (sym e)
+-- the number is 0
+taken : (e : tie.Else1) → figuresRefusal (e .before .before .before .before .args .b) ≡ 0
+taken e = sym (e .before .figures-refusal .ensures) ∙ e .if1 .left
 
-returns : tie.Need-returns
-returns c =
-    let t = c .before .before in
-    let k = t .before in
-    let s = k .before .before .before .before in
+figures-between-requires : tie.Need-figures-between-requires
+figures-between-requires c κs =
+    let e = c .before .before in
+    let s = e .before .before .before .before in
     let b = s .args .b in
-    c .adjusted-line .ensures ∙ ap (λ (z : ℤ). adjustedIfFit (b .line .order) (b .line .start) z (sectionsOf (b .sections))) (stored-id (end-fits s))
-    ∙ chosen b true (sym (k .is-closed .ensures) ∙ t .if1 .taken)
-
-no-line-requires : tie.Need-no-line-requires
-no-line-requires c κs = search needs
+    ap (λ (z : ℤ). figuresFit (b .line .opening .start .height) z (sectionsOf (b .sections))) (stored-id (end-fits s)) ∙ closed-fits b (taken e)
 
 returns-2 : tie.Need-returns-2
+unfolding figuresOf
 returns-2 c =
-    let e = c .before in
-    let k = e .before in
-    let s = k .before .before .before .before in
-    c .no-line .ensures ∙ chosen (s .args .b) false (sym (k .is-closed .ensures) ∙ e .if1 .left)
+    let e = c .before .before .before in
+    let s = e .before .before .before .before in
+    let b = s .args .b in
+    tells b (c .figures-between .ensures ∙ ap (λ (z : ℤ). closeFigures 0 (closing (b .line .opening) z (sectionsOf (b .sections)))) (stored-id (end-fits s))
+    ∙ given (figuresRefusal b) (closingOf (standingOf b)) (taken e))
 
 pub figures-of-spec : {M : Type 1} → statement M
 figures-of-spec =
     tie.close
-    (tie.spec is-closed-requires adjusted-line-requires returns no-line-requires returns-2)
+    (tie.spec
+    figures-refusal-requires
+    not-closed-requires
+    returns
+    figures-between-requires
+    returns-2)

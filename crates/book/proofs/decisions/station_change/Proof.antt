@@ -1,24 +1,25 @@
--- `station` meets its contract: readings that are refused, and a station that is refused or taken, by the laws that join a refusal and an effect.
+-- `station_change` meets its contract: readings that are refused, and a station that is refused or taken, by its refusal and its effect.
 use mathlib.Core.Path.{_≡_, refl, sym, ap, subst, _∙_}
-use mathlib.Core.List.{_∷_}
 use Rattle.numbers.specs.Tables.{firstOf}
 use Rattle.numbers.proofs.Machine.{stored}
 use Rattle.station.specs.declared.Figures.{Figures}
 use Rattle.station.specs.declared.Readings.{Readings}
-use Rattle.station.specs.Bounds.{Small}
+use Rattle.station.specs.code.Bounds.{Small}
 use Rattle.station.specs.Station.{stationOf, figuresOf, readingRefusal, Reads}
 use Rattle.station.proofs.Answered.{of-station, of-refused}
 use Rattle.station.proofs.Sizes.{read, figures-small}
-use Rattle.adjust.proofs.Holding.{Whole}
-use Rattle.rules.specs.Standing.{standingOf, broken, withStation}
-use Rattle.rules.specs.Rules.{Call, station, stationTests, bookRefusal, withRuns}
-use Rattle.rules.proofs.Tables.{not-broken}
+use Rattle.rules.specs.Standing.{Standing, withStation}
+use Rattle.rules.specs.code.Seen.{numbered, numbersIn}
+use Rattle.rules.specs.Rules.{Call, station, bookStationTests, bookRefusal, withRuns}
+use Rattle.rules.proofs.Tables.{line-whole}
 use Rattle.rules.proofs.Parts.{input-refused, later-refused}
 use Rattle.rules.proofs.Unbroken.{unbroken}
-use Rattle.book.proofs.Joined.{station-as, makes-refused, makes-moved}
+use Rattle.rules.proofs.Looked.{counted-broken}
+use Rattle.book.specs.code.Changes.{movedTo, effectOf}
+use Rattle.book.proofs.Joined.{station-as, change-refused, change-taken}
 use borrow.Author.Needs.{needs}
-use Rattle.book.proofs.changes.station.Statement.{statement}
-use Rattle.book.proofs.changes.station.Tie as tie
+use Rattle.book.proofs.decisions.station_change.Statement.{statement}
+use Rattle.book.proofs.decisions.station_change.Tie as tie
 
 read-requires : tie.Need-read-requires
 read-requires c κs = search needs
@@ -41,6 +42,10 @@ moved-requires-2 c κs = search needs
 moved-requires-3 : tie.Need-moved-requires-3
 moved-requires-3 c κs = search needs
 
+-- the line and the numbers of its sections
+abbrev held : tie.Start → Standing
+held s = numbersIn (s .args .line) (s .args .count) (s .args .numbers .now)
+
 -- the call as it is read back
 abbrev asked : tie.Start → Call
 asked s = station (stored (s .args .kb)) (stored (s .args .kf)) (s .args .readings)
@@ -62,7 +67,7 @@ returns-2 c =
     let r = k .before .before in
     let s = r .before in
     let refused = of-refused (stored (s .args .kb)) (stored (s .args .kf)) (s .args .readings) (reads r (k .read2 .given .1)) in
-    makes-refused (s .args .b) (same s) (input-refused (standingOf (s .args .b)) (asked s) (k .read2 .given .0 .0) (refused .0) (refused .1)) (refused .1) (c .moved .ensures)
+    change-refused (held s) (s .args .line) (same s) (input-refused (held s) (asked s) (k .read2 .given .0 .0) (refused .0) (refused .1)) (refused .1) (c .moved .ensures)
 
 -- ---- a station
 
@@ -73,47 +78,46 @@ taken k =
     let a = r .before .args in
     of-station (stored (a .kb)) (stored (a .kf)) (a .readings) (reads r (k .read3 .given .1))
 
-number : (c : tie.After-station-refusal) → c .station-refusal .result ≡ bookRefusal (standingOf (c .before .before .before .before .before .args .b)) (asked (c .before .before .before .before .before))
+number : (c : tie.After-station-refusal) → c .station-refusal .result ≡ bookRefusal (held (c .before .before .before .before .before)) (asked (c .before .before .before .before .before))
 unfolding readingRefusal
 number c =
     let k = c .before .before in
     let s = k .before .before .before in
-    let v = standingOf (s .args .b) in
-    later-refused v (asked s) (c .station-refusal .result) (taken k .0)
-    (c .station-refusal .ensures ∙ ap (λ (f : Figures). firstOf ((20, broken v) ∷ stationTests v (stored (s .args .kb)) f)) (taken k .1))
+    later-refused (held s) (asked s) (c .station-refusal .result) (taken k .0)
+    (c .station-refusal .ensures ∙ ap (λ (f : Figures). firstOf (bookStationTests (held s) (stored (s .args .kb)) f)) (taken k .1))
 
 returns : tie.Need-returns
 returns c =
     let t = c .before in
     let r = t .before in
     let s = r .before .before .before .before .before in
-    makes-refused (s .args .b) (same s) (number r) (t .if1 .taken) (c .moved2 .ensures)
+    change-refused (held s) (s .args .line) (same s) (number r) (t .if1 .taken) (c .moved2 .ensures)
 
 with-station-requires : tie.Need-with-station-requires
 with-station-requires c κs =
     let r = c .before in
     let k = r .before .before in
-    let s = k .before .before .before in (
-      unbroken (s .args .b) (not-broken (standingOf (s .args .b)) (asked s) (sym (number r) ∙ c .if1 .left)) .present,
+    let s = k .before .before .before in
+    let a = s .args in (
+      unbroken (a .line) (a .count)
+          (sym (counted-broken (a .line) (numbered (a .count) (a .numbers .now))) ∙ line-whole (held s) (asked s) (sym (number r) ∙ c .if1 .left)) .present,
       subst Small (sym (taken k .1)) (figures-small (read (stored (s .args .kb)) (stored (s .args .kf)) (s .args .readings) (taken k .0))),
     )
 
-whole : (s : tie.Start) → Whole (s .args .b .sections)
-whole s = search needs
-
 returns-3 : tie.Need-returns-3
+unfolding effectOf
 returns-3 c =
     let d = c .before in
     let e = d .before in
     let r = e .before in
     let k = r .before .before in
     let s = k .before .before .before in
-    let l = s .args .b .line in
+    let l = s .args .line in
     let line = d .with-station .ensures ∙ ap (λ (f : Figures). withRuns l (l .waiting) (withStation (l .present) f (stored (s .args .kf)))) (taken k .1) in
-    makes-moved (s .args .b) (same s) (number r) (whole s) (e .if1 .left) (c .moved3 .ensures) line refl
+    change-taken (held s) l (same s) (number r) (e .if1 .left) (c .moved3 .ensures ∙ ap (movedTo 0) line)
 
-pub station-spec : {M : Type 1} → statement M
-station-spec =
+pub station-change-spec : {M : Type 1} → statement M
+station-change-spec =
     tie.close
     (tie.spec
     read-requires
