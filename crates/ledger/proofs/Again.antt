@@ -1,20 +1,19 @@
 -- The book that holds what the plain reading's lists sum to; of a closed one `figures_of` gives what the closing gave.
 use mathlib.Core.Path.{_≡_, sym, ap, _∙_}
-use mathlib.Core.Bool.{Bool, true, not, cond, _&&_, _||_}
-use native.Mathlib.Omega.{arith}
-use borrow.Author.Tests.{le-leb, lt-ltb}
-use lib.ListN.{length}
-use Rattle.adjust.specs.Sections.{sectionsOf}
-use Rattle.adjust.specs.Frames.{figuresFit, adjustedOf, nothing, adjustedIfFit}
+use mathlib.Core.Bool.{not, cond}
+use lib.IntN.{pos}
+use Rattle.numbers.specs.Tables.{firstOf}
+use Rattle.adjust.specs.Line.{closing}
 use Rattle.adjust.proofs.Holding.{sections-holding, holding-none}
 use Rattle.rules.specs.declared.Stage.{Stage}
 use Rattle.rules.specs.declared.Stage.the-variants.{Closed}
 use Rattle.rules.specs.declared.Book.{Book}
-use Rattle.rules.specs.Standing.{standingOf, bookWith, isClosed}
-use Rattle.book.specs.Calls.{freshBook, figuresOf}
+use Rattle.rules.specs.Standing.{Standing, standingOf, bookWith, isClosed}
+use Rattle.rules.specs.Rules.{close-line, figuresTests}
+use Rattle.book.specs.Calls.{freshBook, closeFigures, figuresRefusal, figuresOf}
 use Rattle.ledger.specs.Plain as Plain
 use Rattle.ledger.specs.Plain.{Reading, freshReading, standing}
-use Rattle.ledger.proofs.Whole.{Kept}
+use Rattle.ledger.proofs.Whole.{Kept, kept-whole}
 
 abbrev pub bookOf : Reading → Book
 bookOf r = bookWith freshBook (standing r)
@@ -27,16 +26,14 @@ fresh-holds = λ i. record { line = freshBook .line; sections = sym (holding-non
 
 -- ---- the figures of a closed book
 
-fits : (r : Reading) → Kept (standing r) → r .stage ≡ Closed → figuresFit (r .start .height) (r .end) (standing r .sections) ≡ true
-unfolding figuresFit
-fits r k e =
-    let ss = standing r .sections in
-    λ i. lt-ltb 0 (length ss) (omega (arith, k .closed e)) i && not (not (le-leb (length ss) 64 (k .few) i) || k .fit i) && k .start i && k .end i
+-- what `figures_of` gives of it: refused with 21 unless the line is closed
+pub figures-held : (r : Reading) → Kept (standing r) → figuresOf (bookOf r) ≡ closeFigures (cond (not (isClosed (r .stage))) 21 0) (Plain.figuresOf r)
+unfolding figuresOf
+figures-held r k =
+    let number : figuresRefusal (bookOf r) ≡ cond (not (isClosed (r .stage))) 21 0 =
+    ap (λ (v : Standing). firstOf (figuresTests v)) (holds-standing r)
+    ∙ (λ i. cond (kept-whole (standing r) k (close-line (pos 0) (pos 0)) i) 20 (cond (not (isClosed (r .stage))) 21 0)) in
+    λ i. closeFigures (number i) (closing (r .opening) (r .end) (sections-holding (freshBook .sections) (standing r .sections) i))
 
-pub figures-again : (r : Reading) → Kept (standing r) → r .stage ≡ Closed → figuresOf (bookOf r) ≡ adjustedOf (Plain.figuresOf r)
-unfolding figuresOf adjustedIfFit
-figures-again r k e =
-    let ss = sectionsOf (bookOf r .sections) in
-    ap (λ (s : Stage). cond (isClosed s) (adjustedIfFit (r .order) (r .start) (r .end) ss) (adjustedOf nothing)) e
-    ∙ ap (adjustedIfFit (r .order) (r .start) (r .end)) (sections-holding (freshBook .sections) (standing r .sections))
-    ∙ ap (λ (t : Bool). adjustedOf (cond t (Plain.figuresOf r) nothing)) (fits r k e)
+pub figures-again : (r : Reading) → Kept (standing r) → r .stage ≡ Closed → figuresOf (bookOf r) ≡ closeFigures 0 (Plain.figuresOf r)
+figures-again r k e = figures-held r k ∙ ap (λ (s : Stage). closeFigures (cond (not (isClosed s)) 21 0) (Plain.figuresOf r)) e

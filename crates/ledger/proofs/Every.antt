@@ -7,16 +7,17 @@ use lib.Dec.{eqb, eqb→eq}
 use lib.IntN.{ℤ, pos, +ℤ-idl}
 use lib.Signed.{_≤ℤ_}
 use Rattle.numbers.specs.Whole.{anyOf}
-use Rattle.numbers.proofs.Tests.{by-test, holds}
+use Rattle.numbers.proofs.Tests.{by-test, holds, no-true}
 use Rattle.numbers.proofs.Tables.{met}
 use Rattle.numbers.proofs.Ring.{one-mulℤ}
 use Rattle.station.specs.declared.Order.{Order}
 use Rattle.station.specs.declared.Order.the-variants.{Third, Fourth}
 use Rattle.adjust.specs.Line.{Closing, closing, lineLength}
 use Rattle.adjust.proofs.Lines.{line-sound}
+use Rattle.rules.specs.declared.Stage.{Stage}
 use Rattle.rules.specs.declared.Stage.the-variants.{Closed}
 use Rattle.rules.specs.Standing.{Standing}
-use Rattle.rules.specs.Rules.{Call, open-line, station, end-run, drop-run, drop-section, close-line, inputTests}
+use Rattle.rules.specs.Rules.{Call, open-line, station, end-run, drop-run, drop-section, close-line, isClosing, inputTests}
 use Rattle.ledger.specs.Plain.{Reading, Awaited, freshReading, after, next, taken, refusal, standing, runEnded, refusals, figuresOf, given, closings}
 use Rattle.ledger.specs.Claims.{SoundClosing, EveryList, takenOnly, StruckOut}
 use Rattle.ledger.proofs.Follows.{recast}
@@ -24,38 +25,53 @@ use Rattle.ledger.proofs.Whole.{open-not-closed, fresh-not-closed, clos
 
 -- ---- a line that was closed refuses every call
 
-module _ (r : Reading) (number end : ℤ) where
-  abbrev shut : Reading
-  shut = taken r (close-line number end)
+-- the reading at another stage
+abbrev staged : Reading → Stage → Reading
+staged r s = record { stage = s; opening = r .opening; end = r .end; sections = r .sections; waiting = r .waiting; present = r .present }
 
-  refuses : (c : Call) → eqb (refusal shut c) 0 ≡ false
-  refuses (open-line o i n h) = met (inputTests (open-line o i n h)) 21 refl refl
-  refuses (station kb kf m) = met (inputTests (station kb kf m)) 21 refl refl
-  refuses (end-run n) = met (inputTests (end-run n)) 21 refl refl
-  refuses drop-run = refl
-  refuses drop-section = refl
-  refuses (close-line n h) = met (inputTests (close-line n h)) 21 refl refl
+module _ (r : Reading) (e : r .stage ≡ Closed) where
+  refuses : (c : Call) → eqb (refusal r c) 0 ≡ false
+  refuses c = ap (λ (x : Stage). eqb (refusal (staged r x) c) 0) e ∙ go c
+    where
+      go : (c : Call) → eqb (refusal (staged r Closed) c) 0 ≡ false
+      go (open-line o i n h) = met (inputTests (open-line o i n h)) 21 refl refl
+      go (station kb kf m) = met (inputTests (station kb kf m)) 21 refl refl
+      go (end-run n) = met (inputTests (end-run n)) 21 refl refl
+      go drop-run = refl
+      go drop-section = refl
+      go (close-line n h) = met (inputTests (close-line n h)) 21 refl refl
 
-  shut-stays : (cs : List Call) → after shut cs ≡ shut
+  shut-stays : (cs : List Call) → after r cs ≡ r
   shut-stays [] = refl
-  shut-stays (c ∷ cs) = ap (λ (t : Bool). after (cond t (taken shut c) shut) cs) (refuses c) ∙ shut-stays cs
+  shut-stays (c ∷ cs) = ap (λ (t : Bool). after (cond t (taken r c) r) cs) (refuses c) ∙ shut-stays cs
 
-  shut-gives : (cs : List Call) → closings shut cs ≡ []
+  shut-gives : (cs : List Call) → closings r cs ≡ []
   shut-gives [] = refl
-  shut-gives (c ∷ cs) = ap (λ (t : Bool). cond t (given shut c) [] ++ closings (cond t (taken shut c) shut) cs) (refuses c) ∙ shut-gives cs
+  shut-gives (c ∷ cs) = ap (λ (t : Bool). cond t (given r c) [] ++ closings (cond t (taken r c) r) cs) (refuses c) ∙ shut-gives cs
+
+-- ---- which calls close a line
+
+-- a closing that is taken leaves it closed
+pub closes-line : (r : Reading) (c : Call) → isClosing c ≡ true → taken r c .stage ≡ Closed
+closes-line r (open-line o i m h) e = no-true e
+closes-line r (station kb kf m) e = no-true e
+closes-line r (end-run m) e = no-true e
+closes-line r drop-run e = no-true e
+closes-line r drop-section e = no-true e
+closes-line r (close-line m h) e = refl
 
 -- ---- a line that is closed in the end was closed once
 
 -- the closing taken among the calls cs from r on
 record Found (r : Reading) (cs : List Call) : Type 0 where
   before : List Call
-  number : ℤ
-  end : ℤ
+  call : Call
   later : List Call
-  split : cs ≡ before ++ (close-line number end ∷ later)
-  accepted : refusal (after r before) (close-line number end) ≡ 0
-  once : closings r cs ≡ given (after r before) (close-line number end)
-  stays : after r cs ≡ taken (after r before) (close-line number end)
+  split : cs ≡ before ++ (call ∷ later)
+  closing : isClosing call ≡ true
+  accepted : refusal (after r before) call ≡ 0
+  once : closings r cs ≡ figuresOf (taken (after r before) call) ∷ []
+  stays : after r cs ≡ taken (after r before) call
 
 abbrev pub NotClosed : Reading → Type 0
 NotClosed r = r .stage ≡ Closed → ⊥
@@ -72,77 +88,72 @@ behind : (c : Call) (cs : List Call) (r : Reading) → cond (eqb (refusal r c) 0
 behind c cs r e f =
     record {
       before = c ∷ f .before;
-      number = f .number;
-      end = f .end;
+      call = f .call;
       later = f .later;
       split = ap (λ (l : List Call). c ∷ l) (f .split);
+      closing = f .closing;
       accepted = f .accepted;
       once = ap (λ (l : List Closing). l ++ closings (next r c) cs) e ∙ f .once;
       stays = f .stays;
     }
-
--- behind a call that is no closing
-passed : (c : Call) (cs : List Call) (r : Reading) → given r c ≡ [] → NotClosed r → NotClosed (taken r c) → Finds cs
-    → after r (c ∷ cs) .stage ≡ Closed → Found r (c ∷ cs)
-passed c cs r g n k find e =
-    behind c cs r (by-test (eqb (refusal r c) 0) (λ t. cond t (given r c) [] ≡ []) (λ t. g) (λ t. refl)) (find (next r c) (next-open r c n k) e)
 
 ended-stage : (r : Reading) (order : Order) (waiting : Option Awaited) (n : ℤ) → runEnded (recast r order waiting) n .stage ≡ r .stage
 ended-stage r Third none n = refl
 ended-stage r Fourth none n = refl
 ended-stage r order (some w) n = refl
 
-found : (cs : List Call) → Finds cs
-found [] r n e = absurd (n e)
-found (open-line o i m h ∷ cs) r n e = passed (open-line o i m h) cs r refl n open-not-closed (found cs) e
-found (station kb kf m ∷ cs) r n e = passed (station kb kf m) cs r refl n n (found cs) e
-found (end-run m ∷ cs) r n e = passed (end-run m) cs r refl n (λ k. n (sym (ended-stage r (r .order) (r .waiting) m) ∙ k)) (found cs) e
-found (drop-run ∷ cs) r n e = passed drop-run cs r refl n n (found cs) e
-found (drop-section ∷ cs) r n e = passed drop-section cs r refl n n (found cs) e
-found (close-line m h ∷ cs) r n e = go (found cs) (eqb (refusal r c) 0) refl
-  where
-    c : Call
-    c = close-line m h
-
-    go : Finds cs → (t : Bool) → eqb (refusal r c) 0 ≡ t → Found r (c ∷ cs)
-    go find true k =
-        record {
-          before = [];
-          number = m;
-          end = h;
-          later = cs;
-          split = refl;
-          accepted = eqb→eq (refusal r c) 0 (holds k);
-          once =
-              ap (λ (t : Bool). cond t (given r c) [] ++ closings (cond t (taken r c) r) cs) k
-              ∙ ap (λ (l : List Closing). given r c ++ l) (shut-gives r m h cs);
-          stays = ap (λ (t : Bool). after (cond t (taken r c) r) cs) k ∙ shut-stays r m h cs;
-        }
-    go find false k =
-        behind c cs r (ap (λ (t : Bool). cond t (given r c) []) k)
-        (find (next r c) (subst (λ (t : Bool). NotClosed (cond t (taken r c) r)) (sym k) n) e)
-
--- ---- a line that is not closed in the end gave no closing
+-- another call leaves it as far as it was, or open
+stays-open : (r : Reading) (c : Call) → isClosing c ≡ false → NotClosed r → NotClosed (taken r c)
+stays-open r (open-line o i m h) e n = open-not-closed
+stays-open r (station kb kf m) e n = n
+stays-open r (end-run m) e n = λ k. n (sym (ended-stage r (r .opening .order) (r .waiting) m) ∙ k)
+stays-open r drop-run e n = n
+stays-open r drop-section e n = n
+stays-open r (close-line m h) e n = no-true (sym e)
 
 pub either : {A : Type 0} (t : Bool) {x y : A} → x ≡ y → cond t x y ≡ y
 either true e = e
 either false e = refl
 
+-- what a call gives, by whether it is a closing and whether it is taken
+abbrev beside : Reading → Call → Bool → Bool → List Closing
+beside r c k t = cond t (cond k (figuresOf (taken r c) ∷ []) []) []
+
+found : (cs : List Call) → Finds cs
+found [] r n e = absurd (n e)
+found (c ∷ cs) r n e = go (found cs) (isClosing c) (eqb (refusal r c) 0) refl refl
+  where
+    go : Finds cs → (k t : Bool) → isClosing c ≡ k → eqb (refusal r c) 0 ≡ t → Found r (c ∷ cs)
+    go find true true k t =
+        let shut = closes-line r c k in
+        record {
+          before = [];
+          call = c;
+          later = cs;
+          split = refl;
+          closing = k;
+          accepted = eqb→eq (refusal r c) 0 (holds t);
+          once =
+              (λ i. beside r c (k i) (t i) ++ closings (cond (t i) (taken r c) r) cs)
+              ∙ ap (λ (l : List Closing). figuresOf (taken r c) ∷ l) (shut-gives (taken r c) shut cs);
+          stays = ap (λ (b : Bool). after (cond b (taken r c) r) cs) t ∙ shut-stays (taken r c) shut cs;
+        }
+    go find true false k t = behind c cs r (ap (beside r c (isClosing c)) t) (find (next r c) (subst (λ (b : Bool). NotClosed (cond b (taken r c) r)) (sym t) n) e)
+    go find false t k u =
+        behind c cs r ((λ i. beside r c (k i) (eqb (refusal r c) 0)) ∙ either (eqb (refusal r c) 0) refl) (find (next r c) (next-open r c n (stays-open r c k n)) e)
+
+-- ---- a line that is not closed in the end gave no closing
+
 -- what one call gives, where the calls after it leave the line unclosed
 gives-none : (c : Call) (cs : List Call) (r : Reading) → NotClosed (after r (c ∷ cs)) → cond (eqb (refusal r c) 0) (given r c) [] ≡ []
-gives-none (open-line o i m h) cs r n = either (eqb (refusal r (open-line o i m h)) 0) refl
-gives-none (station kb kf m) cs r n = either (eqb (refusal r (station kb kf m)) 0) refl
-gives-none (end-run m) cs r n = either (eqb (refusal r (end-run m)) 0) refl
-gives-none drop-run cs r n = either (eqb (refusal r drop-run) 0) refl
-gives-none drop-section cs r n = either (eqb (refusal r drop-section) 0) refl
-gives-none (close-line m h) cs r n = go (eqb (refusal r c) 0) refl
+gives-none c cs r n = go (isClosing c) (eqb (refusal r c) 0) refl refl
   where
-    c : Call
-    c = close-line m h
-
-    go : (t : Bool) → eqb (refusal r c) 0 ≡ t → cond t (given r c) [] ≡ []
-    go true k = absurd (n (ap (λ (t : Bool). after (cond t (taken r c) r) cs .stage) k ∙ ap (λ (s : Reading). s .stage) (shut-stays r m h cs)))
-    go false k = refl
+    go : (k t : Bool) → isClosing c ≡ k → eqb (refusal r c) 0 ≡ t → beside r c k t ≡ []
+    go true true k t =
+        let shut = closes-line r c k in
+        absurd (n (ap (λ (b : Bool). after (cond b (taken r c) r) cs .stage) t ∙ ap (λ (s : Reading). s .stage) (shut-stays (taken r c) shut cs) ∙ shut))
+    go false true k t = refl
+    go k false e t = refl
 
 pub none-given : (cs : List Call) (r : Reading) → NotClosed (after r cs) → closings r cs ≡ []
 none-given [] r n = refl
@@ -150,31 +161,31 @@ none-given (c ∷ cs) r n = λ i. gives-none c cs r n i ++ none-given cs (next r
 
 -- ---- and soundly
 
-sound : (v : Standing) (end : ℤ) → pos 1 ≤ℤ lineLength (v .sections) → SoundClosing v end (closing (v .line .order) (v .line .start) end (v .sections))
-sound v end h =
-    let s = line-sound (v .line .start .height) end (v .sections) h in
+sound : (v : Standing) → pos 1 ≤ℤ lineLength (v .sections) → SoundClosing v (closing (v .line .opening) (v .line .end) (v .sections))
+sound v h =
+    let s = line-sound (v .line .opening .start .height) (v .line .end) (v .sections) h in
     record {
       figures = refl;
       long = h;
       used-up = +ℤ-idl _ ∙ s .used-up;
-      last = s .last ∙ one-mulℤ end;
+      last = s .last ∙ one-mulℤ (v .line .end);
       near = s .near;
     }
 
 pub every-list : EveryList
 every-list calls e =
     let f = found calls freshReading fresh-not-closed e in
-    let r : Reading = after freshReading (f .before) in
+    let r : Reading = taken (after freshReading (f .before)) (f .call) in
     record {
       before = f .before;
-      number = f .number;
-      end = f .end;
+      call = f .call;
       later = f .later;
       split = f .split;
+      closes = f .closing;
       accepted = f .accepted;
-      gave = closing (r .order) (r .start) (f .end) (standing r .sections);
+      gave = figuresOf r;
       once = f .once;
-      sound = sound (standing r) (f .end) (subst (λ (s : Reading). pos 1 ≤ℤ lineLength (standing s .sections)) (f .stays) (closed-long calls e));
+      sound = sound (standing r) (subst (λ (s : Reading). pos 1 ≤ℤ lineLength (standing s .sections)) (f .stays) (closed-long calls e));
       stays = f .stays;
     }
 
@@ -219,3 +230,12 @@ all-taken (c ∷ cs) r = go (all-taken cs) (eqb (refusal r c) 0) refl
         let xs : List Call = takenOnly (taken r c) cs in
         subst (λ (t : Bool). not t || anyOf (λ n. not (eqb n 0)) (refusals (cond t (taken r c) r) xs) ≡ false) (sym e) (g (taken r c))
     go g false e = g r
+
+-- every closing is one of document 01's: on a number and a known height, which the line then ends on
+pub closing-call : (c : Call) → isClosing c ≡ true → (number : ℤ) × ((end : ℤ) × (c ≡ close-line number end))
+closing-call (open-line o i m h) e = no-true e
+closing-call (station kb kf m) e = no-true e
+closing-call (end-run m) e = no-true e
+closing-call drop-run e = no-true e
+closing-call drop-section e = no-true e
+closing-call (close-line m h) e = (m, (h, refl))

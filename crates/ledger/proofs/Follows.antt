@@ -17,14 +17,12 @@ use Rattle.ledger.specs.Plain as Plain
 use Rattle.ledger.specs.Plain.{Reading, Levelled, Awaited, runOf, sectionOf, standing, withLists}
 
 -- a reading with the order and the waiting list given: the end of a run goes by these two, so a proof goes by their cases and is then used
--- at `recast r (r .order) (r .waiting)`, which is r
+-- at `recast r (r .opening .order) (r .waiting)`, which is r
 abbrev pub recast : Reading → Order → Option Awaited → Reading
 recast r order waiting =
     record {
       stage = r .stage;
-      order = order;
-      instrument = r .instrument;
-      start = r .start;
+      opening = record { order = order; instrument = r .opening .instrument; start = r .opening .start };
       end = r .end;
       sections = r .sections;
       waiting = waiting;
@@ -72,7 +70,7 @@ follows r (open-line order instrument number height) = refl
 follows r (station kb kf readings) =
     let v : Standing = standing r in
     λ i. record { line = withRuns (v .line) (v .line .waiting) (run-append (r .present) (stationOf kb kf readings) i); sections = v .sections }
-follows r (end-run number) = ended r (r .order) (r .waiting) number
+follows r (end-run number) = ended r (r .opening .order) (r .waiting) number
 follows r drop-run = refl
 follows r drop-section = refl
 follows r (close-line number end) = refl

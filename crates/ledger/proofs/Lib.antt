@@ -7,3 +7,4 @@ pub mod Whole
 pub mod Every
 pub mod Again
 pub mod Traced
+pub mod Entries

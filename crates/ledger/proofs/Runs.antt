@@ -5,7 +5,7 @@ use mathlib.Core.Bool.{Bool, true, _&&_}
 use mathlib.Core.List.{List}
 use Prim.Native.Nat.{ℕ, _+_, _*_, _≤_, _<_}
 use native.Mathlib.Decide.{decLe}
-use native.Mathlib.Nat.{le-trans, mul-le-mul, mul-le-mul-right}
+use native.Mathlib.Nat.{le-trans, mul-le-mul, mul-le-mul-left, mul-le-mul-right}
 use native.Mathlib.Omega.{arith}
 use borrow.Author.Tests.{le-leb, leb-false}
 use lib.IntN.{ℤ, pos, natAbs, _+ℤ_, _-ℤ_, _*ℤ_}
@@ -14,7 +14,7 @@ use Rattle.numbers.specs.Whole.{within}
 use Rattle.numbers.proofs.Tests.{and-l, and-r, not-false}
 use Rattle.numbers.proofs.Ring.{ringℤ}
 use Rattle.numbers.proofs.Tables.{first-none}
-use Rattle.numbers.proofs.Parts.{ints, parts-add, parts-sub, parts-times, parts-abs, test-lt}
+use Rattle.numbers.proofs.Parts.{ints, posPart, negPart, parts-add, parts-sub, parts-times, parts-abs, test-lt}
 use Rattle.numbers.proofs.Sizes.{abs-add, abs-sub, abs-mul, square-abs, within-size, within-true, between-true}
 use Rattle.roots.specs.Limit.{isWithin}
 use Rattle.roots.proofs.LimitLaws.{within-le, le-within}
@@ -27,8 +27,10 @@ use Rattle.station.specs.declared.Figures.{Figures}
 use Rattle.station.specs.Station.{Staff, Station, stationOf, figuresOf, limitsOf, sight, faceDifference, twiceHeight, threadsInOrder, readingTests, readingRefusal}
 use Rattle.station.proofs.Sizes.{read}
 use Rattle.adjust.specs.declared.Section.{Section}
+use Rattle.adjust.specs.declared.terms.Terms.{Terms}
 use Rattle.adjust.specs.Sizes.{mostQ, mostR, mostD}
 use Rattle.adjust.specs.Sections.{sectionFits}
+use Rattle.adjust.proofs.Orders.{Row}
 use Rattle.rules.specs.declared.Run.{Run}
 use Rattle.rules.specs.Standing.{Standing, noRun, withStation, oneWay, bothWays, runFits, mostG, mostS, mostDifference}
 use Rattle.rules.specs.Rules.{station, stateTests, discrepancyWithin, refusal}
@@ -140,10 +142,10 @@ station-sized v kb kf readings e h =
     f = figuresOf x
 
     order : Order
-    order = v .line .order
+    order = v .line .opening .order
 
     instrument : Instrument
-    instrument = v .line .instrument
+    instrument = v .line .opening .instrument
 
     l : Limits
     l = limitsOf order instrument
@@ -182,12 +184,11 @@ root-size a x b l k some e h = go (decLe (natAbs x) k)
         let above : k + 1 ≤ natAbs x = omega arith in
         omega (ints, square, mul-le-mul above above, mul-le-mul-right (natAbs x * natAbs x) some)
 
-pub both-ways-fits : (number : ℤ) (out back : Run) → Sized out → Sized back → 0 < back .count
-    → discrepancyWithin (bothWays number out back) ≡ true → sectionFits (bothWays number out back) ≡ true
-both-ways-fits number out back h k few e =
+pub both-ways-fits : (t : Terms) → Row t → (number : ℤ) (out back : Run) → Sized out → Sized back → 0 < back .count
+    → discrepancyWithin (t .apart) (bothWays number out back) ≡ true → sectionFits (bothWays number out back) ≡ true
+both-ways-fits t r number out back h k few e =
     section-fits (bothWays number out back) (omega (arith, h .height, h .count, k .height, k .count, abs-sub (out .height) (back .height))) low high
-    (root-size 625 (out .height +ℤ back .height) 18 (out .sights +ℤ back .sights) mostD (omega arith) e
-    (omega (ints, high, parts-times 18 (out .sights +ℤ back .sights))))
+    (root-size (t .apart .a) (out .height +ℤ back .height) (t .apart .b) (out .sights +ℤ back .sights) mostD (r .some) e within-most)
   where
     low : pos 1 ≤ℤ (out .sights +ℤ back .sights)
     low = omega (ints, h .low, k .low, parts-add (out .sights) (back .sights))
@@ -195,23 +196,32 @@ both-ways-fits number out back h k few e =
     high : (out .sights +ℤ back .sights) ≤ℤ pos mostR
     high = omega (ints, h .high, h .count, k .high, k .count, parts-add (out .sights) (back .sights))
 
+    within-most : (pos (t .apart .b) *ℤ (out .sights +ℤ back .sights)) ≤ℤ pos (mostD * mostD)
+    within-most =
+        let short : posPart (out .sights +ℤ back .sights) ≤ mostR = omega (ints, high, parts-abs (out .sights +ℤ back .sights)) in
+        omega (ints, r .apart, mul-le-mul-left (t .apart .b) short, parts-times (t .apart .b) (out .sights +ℤ back .sights))
+
 -- ---- sections are narrow
 
 -- what the fields of the report ask of a section: of its number, of Q (of 400 stations at most), and of D by the test 32
-abbrev pub narrow : Section → Bool
-narrow x = within (x .number) 9999 && within (x .height) 4802400 && discrepancyWithin x
+abbrev pub narrow : Terms → Section → Bool
+narrow t x = within (x .number) 9999 && within (x .height) 4802400 && discrepancyWithin (t .apart) x
 
-pub one-way-narrow : (number : ℤ) (u : Run) → natAbs number ≤ 9999 → Sized u → narrow (oneWay number u) ≡ true
-one-way-narrow number u n h =
+pub one-way-narrow : (t : Terms) (number : ℤ) (u : Run) → natAbs number ≤ 9999 → Sized u → narrow t (oneWay number u) ≡ true
+one-way-narrow t number u n h =
     rw (
       within-true number 9999 n,
       within-true (pos 2 *ℤ u .height) 4802400 (omega (arith, h .height, h .count, abs-mul (pos 2) (u .height))),
-      le-within 625 (pos 0) 18 (pos 2 *ℤ u .sights) (omega (ints, h .low, parts-times 2 (u .sights), parts-times 18 (pos 2 *ℤ u .sights))),
+      le-within (t .apart .a) (pos 0) (t .apart .b) (pos 2 *ℤ u .sights)
+          (omega (ints, ap (λ k. t .apart .b * k) low, parts-times (t .apart .a) (pos 0), parts-times (t .apart .b) (pos 2 *ℤ u .sights))),
     )
+  where
+    low : negPart (pos 2 *ℤ u .sights) ≡ 0
+    low = omega (ints, h .low, parts-times 2 (u .sights), parts-abs (u .sights))
 
-pub both-ways-narrow : (number : ℤ) (out back : Run) → natAbs number ≤ 9999 → Sized out → Sized back
-    → discrepancyWithin (bothWays number out back) ≡ true → narrow (bothWays number out back) ≡ true
-both-ways-narrow number out back n h k e =
+pub both-ways-narrow : (t : Terms) (number : ℤ) (out back : Run) → natAbs number ≤ 9999 → Sized out → Sized back
+    → discrepancyWithin (t .apart) (bothWays number out back) ≡ true → narrow t (bothWays number out back) ≡ true
+both-ways-narrow t number out back n h k e =
     rw (
       within-true number 9999 n,
       within-true (out .height -ℤ back .height) 4802400 (omega (arith, h .height, h .count, k .height, k .count, abs-sub (out .height) (back .height))),

@@ -15,34 +15,35 @@ use Rattle.numbers.proofs.Filled.{filled-take}
 use Rattle.adjust.specs.declared.Section.{Section}
 use Rattle.adjust.specs.declared.Point.{Point}
 use Rattle.adjust.specs.declared.Summary.{Summary}
-use Rattle.adjust.specs.declared.Adjusted.{Adjusted}
+use Rattle.adjust.specs.declared.Opening.{Opening}
 use Rattle.adjust.specs.Sections.{sectionsOf}
 use Rattle.adjust.specs.Line.{points, frameOf, Closing, closing}
-use Rattle.adjust.specs.Frames.{noPoint, adjustedOf}
+use Rattle.adjust.specs.Frames.{noPoint}
 use Rattle.adjust.specs.Call.{numberOf}
 use Rattle.adjust.proofs.Lists.{points-length}
 use Rattle.adjust.proofs.Refused.{number-of-answer}
 use Rattle.adjust.proofs.Holding.{sections-holding, holding-again}
 use Rattle.rules.specs.declared.Book.{Book}
-use Rattle.book.specs.declared.Change.{Change}
+use Rattle.book.specs.declared.Step.{Step}
 use Rattle.book.specs.declared.Outcome.{Outcome}
 use Rattle.book.specs.declared.CloseAnswer.the-variants.{Closed, NotClosed}
+use Rattle.book.specs.declared.ClosedFigures.{ClosedFigures}
 use Rattle.book.specs.declared.CloseOutcome.{CloseOutcome}
 use Rattle.rules.specs.Standing.{Standing, standingOf, bookWith}
-use Rattle.rules.specs.Rules.{Call, open-line, station, end-run, drop-run, drop-section, close-line, bookRefusal}
+use Rattle.rules.specs.Rules.{Call, open-line, station, end-run, drop-run, drop-section, close-line, isClosing, bookRefusal}
+use Rattle.rules.specs.Records.{callOf}
 use Rattle.rules.specs.Rules as Rules
 use Rattle.rules.proofs.Tables.{tests, tables}
-use Rattle.book.specs.Changes.{Makes}
-use Rattle.book.specs.Calls.{freshBook, bookAfter, outcome, Answers, closingOf, closeNumber, closeValues, closeOutcome, gaveOf, figuresOf}
+use Rattle.book.specs.Calls.{freshBook, bookAfter, stepOf, outcome, Answers, closingOf, closedBy, closeNumber, closeFigures, closeOutcome, Closes, gaveOf, figuresOf}
 use Rattle.book.proofs.Joined.{answers-as}
 use Rattle.book.proofs.Closable.{closes}
 use Rattle.ledger.specs.Plain as Plain
 use Rattle.ledger.specs.Plain.{Reading, freshReading, next, taken, refusal, after, refusals, given, closings, standing}
 use Rattle.ledger.specs.Claims.{ClosedOnce, takenOnly}
-use Rattle.ledger.specs.Trace.{Ensures, ChangeEnsures, MadeEnsures, FiguresEnsures, isClosing, closingIn, hadOf, Trace, done, call, close, made, made-closed, EveryTrace, EveryListMade, StruckOutOfBook}
+use Rattle.ledger.specs.Trace.{Ensures, CloseEnsures, FiguresEnsures, hadOf, Trace, done, call, close, took, took-closing, EveryTrace, EveryListMade, StruckOutOfBook}
 use Rattle.ledger.proofs.Follows.{follows}
 use Rattle.ledger.proofs.Whole.{Kept, next-kept, fresh-kept, calls-kept, same-refusal, no-shorter}
-use Rattle.ledger.proofs.Every.{every-list, same-figures, either, none-given, struck-out, all-taken}
+use Rattle.ledger.proofs.Every.{every-list, same-figures, closes-line, either, none-given, struck-out, all-taken}
 use Rattle.ledger.proofs.Again.{bookOf, holds-standing, fresh-holds, figures-again}
 
 -- ---- one call
@@ -77,92 +78,77 @@ module _ (start end : ℤ) (number : ℤ) (ss : List Section) where
       let n : length ps ≡ length ss + 1 = omega (arith, points-length f (pos 0) (pos 0) (f .prints *ℤ f .start) ss) in
       ap (λ (m : ℕ). take m (filled noPoint 65 ps)) (sym n) ∙ filled-take noPoint 65 ps (omega (arith, n))
 
-gives : (b : Book) (number end : ℤ) → length (sectionsOf (b .sections)) ≤ 64
-    → gaveOf (closeOutcome b number end) ≡ cond (eqb (bookRefusal (standingOf b) (close-line number end)) 0) (closingOf b end ∷ []) []
-unfolding closeOutcome
-gives b number end h = go (bookRefusal (standingOf b) (close-line number end)) (eqb (bookRefusal (standingOf b) (close-line number end)) 0)
-  where
-    f : List Point → Summary → Closing
-    f ps s = record { summary = s; points = take (s .count + 1) ps }
-
-    gave : Closing
-    gave = closingOf b end
-
-    go : (n : ℕ) (t : Bool)
-        → map (f (filled noPoint 65 (cond t (gave .points) []))) (closeValues (cond t (Closed (gave .summary)) (NotClosed n))) ≡ cond t (gave ∷ []) []
-    go n true = λ i. record { summary = gave .summary; points = points-back (b .line .start .height) end (b .line .start .number) (sectionsOf (b .sections)) h i } ∷ []
-    go n false = refl
+given-back : (o : Opening) (end : ℤ) (ss : List Section) → length ss ≤ 64
+    → gaveOf (Closed (closing o end ss .summary)) (filled noPoint 65 (closing o end ss .points)) ≡ closing o end ss ∷ []
+given-back o end ss h = λ i. record { summary = closing o end ss .summary; points = points-back (o .start .height) end (o .start .number) ss h i } ∷ []
 
 -- ---- a list of calls
 
--- what a call but closing ensures is that it answers
-meant : (b : Book) (c : Call) (o : Outcome) → isClosing c ≡ false → (Ensures b c o → Answers b c o) × (Answers b c o → Ensures b c o)
-meant b (open-line order instrument number height) o e = (λ h. h, λ h. h)
-meant b (station kb kf readings) o e = (λ h. h, λ h. h)
-meant b (end-run number) o e = (λ h. h, λ h. h)
-meant b drop-run o e = (λ h. h, λ h. h)
-meant b drop-section o e = (λ h. h, λ h. h)
-meant b (close-line number end) o e = no-true (sym e)
+-- what a call's own function ensures: that it answers or, of a closing, that it closes
+record Meant (b : Book) (c : Call) : Type 0 where
+  answers : (o : Outcome) → Ensures b c o → (isClosing c ≡ false) × Answers b c o
+  closes : (o : CloseOutcome) → CloseEnsures b c o → (isClosing c ≡ true) × Closes b c o
+  made : ((o : Outcome) → Answers b c o → Ensures b c o) ⊎ ((o : CloseOutcome) → Closes b c o → CloseEnsures b c o)
 
--- every call is a closing or none
-closing-or-none : (c : Call) → ((number : ℤ) × ((end : ℤ) × (c ≡ close-line number end))) ⊎ (isClosing c ≡ false)
-closing-or-none (open-line order instrument number height) = inr refl
-closing-or-none (station kb kf readings) = inr refl
-closing-or-none (end-run number) = inr refl
-closing-or-none drop-run = inr refl
-closing-or-none drop-section = inr refl
-closing-or-none (close-line number end) = inl (number, (end, refl))
-
-not-closing : (b : Book) (c : Call) (o : Outcome) → Ensures b c o → isClosing c ≡ false
-not-closing b c o h = ⊎-elim (λ k. absurd (subst (λ (d : Call). Ensures b d o) (k .1 .1) h)) (λ e. e) (closing-or-none c)
-
--- the change of each call
-changes : (b : Book) (c : Call) (x : Change) → ChangeEnsures b c x → Makes b c x
-changes b (open-line order instrument number height) x h = h
-changes b (station kb kf readings) x h = h
-changes b (end-run number) x h = h
-changes b drop-run x h = h
-changes b drop-section x h = h
-changes b (close-line number end) x h = h
+meant : (b : Book) (c : Call) → Meant b c
+meant b (open-line order instrument number height) = record { answers = λ o h. (refl, h); closes = λ o h. absurd h; made = inl (λ o h. h) }
+meant b (station kb kf readings) = record { answers = λ o h. (refl, h); closes = λ o h. absurd h; made = inl (λ o h. h) }
+meant b (end-run number) = record { answers = λ o h. (refl, h); closes = λ o h. absurd h; made = inl (λ o h. h) }
+meant b drop-run = record { answers = λ o h. (refl, h); closes = λ o h. absurd h; made = inl (λ o h. h) }
+meant b drop-section = record { answers = λ o h. (refl, h); closes = λ o h. absurd h; made = inl (λ o h. h) }
+meant b (close-line number end) = record { answers = λ o h. absurd h; closes = λ o h. (refl, h); made = inr (λ o h. h) }
 
 -- a call that is no closing gives nothing beside
 none-beside : (r : Reading) (c : Call) → isClosing c ≡ false → given r c ≡ []
-none-beside r (open-line order instrument number height) e = refl
-none-beside r (station kb kf readings) e = refl
-none-beside r (end-run number) e = refl
-none-beside r drop-run e = refl
-none-beside r drop-section e = refl
-none-beside r (close-line number end) e = no-true (sym e)
+none-beside r c e = ap (λ (k : Bool). cond k (Plain.figuresOf (taken r c) ∷ []) []) e
 
--- a change that is made of the book of a reading: its number, and the book of the next reading
-module _ (r : Reading) (k : Kept (standing r)) (c : Call) {b m : Book} (p : b ≡ bookOf r) (x : Change) (h : ChangeEnsures b c x) (g : MadeEnsures b x m) where
-  made-number : x .number ≡ refusal r c
-  made-number = ap (λ (y : Change). y .number) (changes b c x h .0) ∙ ap (λ (y : Book). bookRefusal (standingOf y) c) p ∙ number r k c
+-- and a closing its figures
+one-beside : (r : Reading) (c : Call) → isClosing c ≡ true → given r c ≡ Plain.figuresOf (taken r c) ∷ []
+one-beside r c e = ap (λ (k : Bool). cond k (Plain.figuresOf (taken r c) ∷ []) []) e
 
-  made-book : m ≡ bookOf (next r c)
-  made-book = g ∙ changes b c x h .1 ∙ ap (λ (y : Book). bookAfter y c) p ∙ left r k c
+-- a record that is taken of the book of a reading: its number, and the book of the next reading
+module _ (r : Reading) (k : Kept (standing r)) (c : Call) {b : Book} (p : b ≡ bookOf r) {x : Step} (h : x ≡ stepOf b c) where
+  took-number : x .number ≡ refusal r c
+  took-number = ap (λ (y : Step). y .number) h ∙ ap (λ (y : Book). bookRefusal (standingOf y) c) p ∙ number r k c
 
--- the figures of a book that was closed, as a closing
-module _ (r : Reading) (k : Kept (standing r)) (number end : ℤ) {m : Book} (x : Change) (a : Adjusted)
-    (n : x .number ≡ refusal r (close-line number end)) (s : m ≡ bookOf (next r (close-line number end))) (f : FiguresEnsures m a) where
+  took-book : x .book ≡ bookOf (next r c)
+  took-book = ap (λ (y : Step). y .book) h ∙ ap (λ (y : Book). bookAfter y c) p ∙ left r k c
+
+-- what a closing gives of the book of a reading, at once or by the figures of the book that it leaves
+module _ (r : Reading) (k : Kept (standing r)) (c : Call) (shuts : isClosing c ≡ true) where
   abbrev closed : Reading
-  closed = taken r (close-line number end)
+  closed = taken r c
 
-  -- where the call is taken, the next reading is the closed one
-  had-closing : refusal r (close-line number end) ≡ 0 → closingIn a ≡ Plain.figuresOf closed
-  had-closing e =
-      let reached : next r (close-line number end) ≡ closed = zero-cond (refusal r (close-line number end)) closed r e in
-      let kept : Kept (standing closed) = subst (λ (q : Reading). Kept (standing q)) reached (next-kept r (close-line number end) k) in
-      let figures : a ≡ adjustedOf (Plain.figuresOf closed) = f ∙ ap figuresOf (s ∙ ap bookOf reached) ∙ figures-again closed kept refl in
-      ap closingIn figures
-      ∙ (λ i. record { summary = Plain.figuresOf closed .summary; points = points-back (r .start .height) end (r .start .number) (standing closed .sections) (kept .few) i })
+  -- where it is taken, the next reading is the closed one
+  reached : refusal r c ≡ 0 → next r c ≡ closed
+  reached e = zero-cond (refusal r c) closed r e
 
-  had : hadOf x a ≡ cond (eqb (refusal r (close-line number end)) 0) (given r (close-line number end)) []
-  had =
-      (λ i. cond (eqb (n i) 0) (closingIn a ∷ []) [])
-      ∙ by-test (eqb (refusal r (close-line number end)) 0)
-      (λ t. cond t (closingIn a ∷ []) [] ≡ cond t (given r (close-line number end)) [])
-      (λ t. ap (λ (g : Closing). g ∷ []) (had-closing (eqb→eq (refusal r (close-line number end)) 0 t))) (λ t. refl)
+  closed-kept : refusal r c ≡ 0 → Kept (standing closed)
+  closed-kept e = subst (λ (q : Reading). Kept (standing q)) (reached e) (next-kept r c k)
+
+  one-given : refusal r c ≡ 0 → gaveOf (Closed (Plain.figuresOf closed .summary)) (filled noPoint 65 (Plain.figuresOf closed .points)) ≡ given r c
+  one-given e = given-back (closed .opening) (closed .end) (standing closed .sections) (closed-kept e .few) ∙ sym (one-beside r c shuts)
+
+  closing-gave : gaveOf (closeOutcome (bookOf r) c .answer) (closeOutcome (bookOf r) c .points) ≡ cond (eqb (refusal r c) 0) (given r c) []
+  unfolding closeOutcome
+  closing-gave =
+      let n = refusal r c in
+      let g : Closing = Plain.figuresOf closed in
+      let figures : closedBy (bookOf r) c ≡ g = ap (λ (v : Standing). closingOf (Rules.taken v c)) (holds-standing r) ∙ ap closingOf (sym (follows r c)) in
+      (λ i. gaveOf (closeFigures (number r k c i) (figures i) .answer) (closeFigures (number r k c i) (figures i) .points))
+      ∙ by-test (eqb n 0) (λ t. gaveOf (cond t (Closed (g .summary)) (NotClosed n)) (filled noPoint 65 (cond t (g .points) [])) ≡ cond t (given r c) [])
+      (λ t. one-given (eqb→eq n 0 t)) (λ t. refl)
+
+  module _ (x : Step) (a : ClosedFigures) (n : x .number ≡ refusal r c) (s : x .book ≡ bookOf (next r c)) (f : FiguresEnsures (x .book) a) where
+    had-closing : refusal r c ≡ 0 → gaveOf (a .answer) (a .points) ≡ given r c
+    had-closing e =
+        let figures : a ≡ closeFigures 0 (Plain.figuresOf closed) = f .0 ∙ ap figuresOf (s ∙ ap bookOf (reached e)) ∙ figures-again closed (closed-kept e) (closes-line r c shuts) in
+        ap (λ (y : ClosedFigures). gaveOf (y .answer) (y .points)) figures ∙ one-given e
+
+    had : hadOf x a ≡ cond (eqb (refusal r c) 0) (given r c) []
+    had =
+        (λ i. cond (eqb (n i) 0) (gaveOf (a .answer) (a .points)) [])
+        ∙ by-test (eqb (refusal r c) 0) (λ t. cond t (gaveOf (a .answer) (a .points)) [] ≡ cond t (given r c) []) (λ t. had-closing (eqb→eq (refusal r c) 0 t)) (λ t. refl)
 
 record Same (r : Reading) (calls : List Call) (ns : List ℕ) (gs : List Closing) (e : Book) : Type 0 where
   numbers : ns ≡ refusals r calls
@@ -173,8 +159,9 @@ traced : {b e : Book} {cs : List Call} {ns : List ℕ} {gs : List Closing} (r : 
 unfolding outcome closeOutcome
 traced r k p done = record { numbers = refl; gave = refl; book = p }
 traced r k p (call {b = b} {c = c} {cs = cs} o h t) =
-    let n = not-closing b c o h in
-    let q = meant b c o n .0 h in
+    let m = meant b c .answers o h in
+    let n = m .0 in
+    let q = m .1 in
     let rest = traced (next r c) (next-kept r c k) (ap (λ (x : Outcome). x .book) (q .0) ∙ ap (λ (x : Book). bookAfter x c) p ∙ left r k c) t in
     let answered = q .1 ∙ ap (λ (x : Book). bookRefusal (standingOf x) c) p ∙ number r k c in
     record {
@@ -182,32 +169,29 @@ traced r k p (call {b = b} {c = c} {cs = cs} o h t) =
       gave = rest .gave ∙ ap (λ (l : List Closing). l ++ closings (next r c) cs) (sym (either (eqb (refusal r c) 0) (none-beside r c n)));
       book = rest .book;
     }
-traced r k p (close {number = m} {end = end} {cs = cs} o h t) =
-    let c : Call = close-line m end in
-    let q : o ≡ closeOutcome (bookOf r) m end = h .0 ∙ ap (λ (x : Book). closeOutcome x m end) p in
+traced r k p (close {b = b} {c = c} {cs = cs} o h t) =
+    let m = meant b c .closes o h in
+    let q : o ≡ closeOutcome (bookOf r) c = m .1 .0 ∙ ap (λ (x : Book). closeOutcome x c) p in
     let rest = traced (next r c) (next-kept r c k) (ap (λ (x : CloseOutcome). x .book) q ∙ left r k c) t in
-    let answered = h .1 .0 ∙ ap (λ (x : Book). bookRefusal (standingOf x) c) p ∙ number r k c in
-    let held = sections-holding (freshBook .sections) (standing r .sections) in
-    let few : length (sectionsOf (bookOf r .sections)) ≤ 64 = subst (λ (ss : List Section). length ss ≤ 64) (sym held) (k .few) in
-    let gave =
-    ap gaveOf q ∙ gives (bookOf r) m end few
-    ∙ (λ i. cond (eqb (number r k c i) 0) (closing (r .order) (r .start) end (held i) ∷ []) []) in
+    let answered = m .1 .1 .0 ∙ ap (λ (x : Book). bookRefusal (standingOf x) c) p ∙ number r k c in
+    let gave = ap (λ (x : CloseOutcome). gaveOf (x .answer) (x .points)) q ∙ closing-gave r k c (m .0) in
     record { numbers = λ i. answered i ∷ rest .numbers i; gave = λ i. gave i ++ rest .gave i; book = rest .book }
-traced r k p (made {c = c} {cs = cs} x n h g t) =
-    let rest = traced (next r c) (next-kept r c k) (made-book r k c p x h g) t in
+traced r k p (took {cs = cs} tag v x n h t) =
+    let c : Call = callOf tag v in
+    let rest = traced (next r c) (next-kept r c k) (took-book r k c p h) t in
     record {
-      numbers = λ i. made-number r k c p x h g i ∷ rest .numbers i;
+      numbers = λ i. took-number r k c p h i ∷ rest .numbers i;
       gave = rest .gave ∙ ap (λ (l : List Closing). l ++ closings (next r c) cs) (sym (either (eqb (refusal r c) 0) (none-beside r c n)));
       book = rest .book;
     }
-traced r k p (made-closed {number = m} {end = end} x a h g f t) =
-    let c : Call = close-line m end in
-    let left-book = made-book r k c p x h g in
-    let answered = made-number r k c p x h g in
+traced r k p (took-closing tag v x a shuts h f t) =
+    let c : Call = callOf tag v in
+    let left-book = took-book r k c p h in
+    let answered = took-number r k c p h in
     let rest = traced (next r c) (next-kept r c k) left-book t in
     record {
       numbers = λ i. answered i ∷ rest .numbers i;
-      gave = λ i. had r k m end x a answered left-book f i ++ rest .gave i;
+      gave = λ i. had r k c shuts x a answered left-book f i ++ rest .gave i;
       book = rest .book;
     }
 
@@ -224,10 +208,10 @@ abbrev renamed : {calls : List Call} {xs ys : List Closing} → ys ≡ xs → Cl
 renamed p x =
     record {
       before = x .before;
-      number = x .number;
-      end = x .end;
+      call = x .call;
       later = x .later;
       split = x .split;
+      closes = x .closes;
       accepted = x .accepted;
       gave = x .gave;
       once = p ∙ x .once;
@@ -249,7 +233,7 @@ every-trace b e calls ns gs f t =
       never-20 = subst (λ (l : List ℕ). anyOf (λ n. eqb n 20) l ≡ false) (sym (s .numbers)) (never-20 freshReading calls);
       closed = λ c. renamed (s .gave) (every-list calls (stage ∙ c));
       again =
-          λ c x given. given ∙ ap figuresOf (s .book) ∙ figures-again r (calls-kept calls) (stage ∙ c) ∙ ap adjustedOf (same-figures calls (stage ∙ c));
+          λ c x given. given .0 ∙ ap figuresOf (s .book) ∙ figures-again r (calls-kept calls) (stage ∙ c) ∙ ap (closeFigures 0) (same-figures calls (stage ∙ c));
       unclosed = λ n. s .gave ∙ none-given calls freshReading (λ c. n (sym stage ∙ c));
     }
 
@@ -260,20 +244,19 @@ Made b calls = (ns : List ℕ) × ((gs : List Closing) × ((e : Book) × Trace b
 
 -- one call more, before a list that can be made of any book
 made-first : (b : Book) (c : Call) (cs : List Call) → ((m : Book) → Made m cs) → Made b (c ∷ cs)
-made-first b c cs rest = ⊎-elim closing other (closing-or-none c)
+made-first b c cs rest = ⊎-elim other closing (meant b c .made)
   where
-    closing : ((number : ℤ) × ((end : ℤ) × (c ≡ close-line number end))) → Made b (c ∷ cs)
+    closing : ((o : CloseOutcome) → Closes b c o → CloseEnsures b c o) → Made b (c ∷ cs)
     closing k =
-        let o : CloseOutcome = closeOutcome b (k .0) (k .1 .0) in
+        let o : CloseOutcome = closeOutcome b c in
         let t = rest (o .book) in
-        subst (λ (d : Call). Made b (d ∷ cs)) (sym (k .1 .1))
-        (closeNumber (o .answer) ∷ t .0, (gaveOf o ++ t .1 .0, (t .1 .1 .0, close o (closes b (k .0) (k .1 .0) refl) (t .1 .1 .1))))
+        (closeNumber (o .answer) ∷ t .0, (gaveOf (o .answer) (o .points) ++ t .1 .0, (t .1 .1 .0, close o (k o (closes b c refl)) (t .1 .1 .1))))
 
-    other : isClosing c ≡ false → Made b (c ∷ cs)
-    other e =
+    other : ((o : Outcome) → Answers b c o → Ensures b c o) → Made b (c ∷ cs)
+    other k =
         let o : Outcome = outcome b c in
         let t = rest (o .book) in
-        (numberOf (o .answer) ∷ t .0, (t .1 .0, (t .1 .1 .0, call o (meant b c o e .1 (answers-as b c refl)) (t .1 .1 .1))))
+        (numberOf (o .answer) ∷ t .0, (t .1 .0, (t .1 .1 .0, call o (k o (answers-as b c refl)) (t .1 .1 .1))))
 
 made-list : (calls : List Call) (b : Book) → Made b calls
 made-list [] b = ([], ([], (b, done)))

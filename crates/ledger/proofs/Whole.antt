@@ -5,7 +5,7 @@ use mathlib.Core.List.{List, [], _∷_, _++_}
 use Prim.Native.Nat.{ℕ, _%_, _≤_, _<_}
 use native.Mathlib.Nat.{le-refl}
 use native.Mathlib.Omega.{arith}
-use borrow.Author.Tests.{le-leb, lt-leb, leb-false, eqb-false}
+use borrow.Author.Tests.{le-leb, lt-leb, leb-false, eqb-false, ne-eqb}
 use lib.Dec.{leb, eqb, eqb→eq}
 use lib.ListN.{length, length-append}
 use lib.IntN.{ℤ, pos, natAbs}
@@ -16,8 +16,11 @@ use Rattle.numbers.proofs.Tables.{first-skips}
 use Rattle.numbers.proofs.All.{All, all-cons, all-append}
 use Rattle.numbers.proofs.Parts.{ints, parts-abs, test-le}
 use Rattle.adjust.specs.declared.Section.{Section}
-use Rattle.adjust.specs.Sections.{sectionFits, heightInRange}
+use Rattle.adjust.specs.declared.terms.Terms.{Terms}
+use Rattle.adjust.specs.Terms.{termsOf}
+use Rattle.adjust.specs.Sections.{sectionFits, misfit, heightInRange}
 use Rattle.adjust.specs.Line.{lineLength}
+use Rattle.adjust.proofs.Orders.{row}
 use Rattle.adjust.proofs.Lists.{fitted-legs}
 use Rattle.adjust.proofs.Sized.{long}
 use Rattle.rules.specs.declared.Stage.{Stage}
@@ -26,8 +29,8 @@ use Rattle.rules.specs.declared.Run.{Run}
 use Rattle.rules.specs.declared.Line.{Line}
 use Rattle.rules.specs.declared.Waiting.{Waiting}
 use Rattle.rules.specs.declared.Waiting.the-variants.{Nothing, Outward}
-use Rattle.rules.specs.Standing.{Standing, isFresh, isOpen, isShut, isEmpty, isReturn, outwardOrReturn, noRun, oneWay, bothWays, twoWay, waitingBroken, misplaced, broken}
-use Rattle.rules.specs.Rules.{Call, open-line, station, end-run, drop-run, drop-section, close-line, inputTests, stateTests, refusal, bookRefusal, numberInRange, discrepancyWithin, withRuns, withSection, runEnded, taken}
+use Rattle.rules.specs.Standing.{Standing, isFresh, isOpen, isClosed, isShut, isEmpty, isReturn, outwardOrReturn, noRun, oneWay, bothWays, waitingBroken, misplaced, lineBroken}
+use Rattle.rules.specs.Rules.{Call, open-line, station, end-run, drop-run, drop-section, close-line, isClosing, broken, inputTests, stateTests, refusal, bookRefusal, numberInRange, discrepancyWithin, withRuns, withSection, runEnded, taken}
 use Rattle.rules.proofs.Tables.{fails}
 use Rattle.ledger.specs.Plain as Plain
 use Rattle.ledger.specs.Plain.{Reading, freshReading, after, next, standing}
@@ -54,44 +57,56 @@ pub record Kept (v : Standing) : Type 0 where
   pub fit : All sectionFits (v .sections)
   pub present : Sized (v .line .present)
   pub waiting : Awaits (length (v .sections)) (v .line .waiting)
-  pub start : heightInRange (v .line .start .height) ≡ true
+  pub start : heightInRange (v .line .opening .start .height) ≡ true
   pub end : heightInRange (v .line .end) ≡ true
   pub closed : v .line .stage ≡ Closed → 1 ≤ length (v .sections)
   pub placed : misplaced (v .line) (length (v .sections)) ≡ false
   -- what the report's fields ask
-  pub number : natAbs (v .line .start .number) ≤ 9999
-  pub narrow-sections : All narrow (v .sections)
+  pub number : natAbs (v .line .opening .start .number) ≤ 9999
+  pub narrow-sections : All (narrow (termsOf (v .line .opening .order))) (v .sections)
 
 -- so the test of 20 does not hold
-kept-whole : (v : Standing) → Kept v → broken v ≡ false
-unfolding broken
-kept-whole v i =
-    λ j. (not (le-leb (length (v .sections)) 64 (i .few) j) || i .fit j)
-    || (not (run-fits (v .line .present) (i .present) j) || waits (v .line .waiting) (i .waiting) j || not (i .start j) || not (i .end j))
-    || i .placed j
+pub kept-whole : (v : Standing) → Kept v → (c : Call) → broken v c ≡ false
+unfolding lineBroken
+kept-whole v i c =
+    λ j. (none (isClosing c) j
+    || (not (le-leb (length (v .sections)) 64 (i .few) j) || not (run-fits (v .line .present) (i .present) j) || waits (v .line .waiting) (i .waiting) j || not (i .start j) || not (i .end j)
+    || i .placed j))
   where
+    none : (t : Bool) → t && misfit (v .sections) ≡ false
+    none true = λ j. not (le-leb (length (v .sections)) 64 (i .few) j) || i .fit j
+    none false = refl
+
     waits : (w : Waiting) → Awaits (length (v .sections)) w → waitingBroken w (length (v .sections)) ≡ false
     waits Nothing k = refl
     waits (Outward number run) k = λ j. not (run-fits run (k .0) j) || lt-leb 64 (length (v .sections)) (k .1) j
 
 -- an open line is not fresh: what is left to see is what waits
 abbrev stray : Standing → Bool
-stray v = isReturn (v .line .waiting) && not (twoWay (v .line .order))
+stray v = isReturn (v .line .waiting) && not (termsOf (v .line .opening .order) .double)
 
 no-stray : (v : Standing) → Kept v → stray v ≡ false
-no-stray v i = or-r (isFresh (v .line .stage) && not (eqb (length (v .sections)) 0 && eqb (v .line .present .count) 0 && not (isReturn (v .line .waiting)))) (stray v) (i .placed)
+no-stray v i =
+    let full = isFresh (v .line .stage) && not (eqb (length (v .sections)) 0 && eqb (v .line .present .count) 0 && not (isReturn (v .line .waiting))) in
+    or-r full (stray v) (or-l (full || stray v) (isClosed (v .line .stage) && eqb (length (v .sections)) 0) (i .placed))
 
 not-fresh : (s : Stage) → isOpen s ≡ true → isFresh s ≡ false
 not-fresh Fresh e = no-true e
 not-fresh Open e = refl
 not-fresh Closed e = refl
 
-open-placed : (l : Line) (n : ℕ) → isOpen (l .stage) ≡ true → isReturn (l .waiting) && not (twoWay (l .order)) ≡ false → misplaced l n ≡ false
-open-placed l n o e = λ j. (not-fresh (l .stage) o j && not (eqb n 0 && eqb (l .present .count) 0 && not (isReturn (l .waiting)))) || e j
+open-placed : (l : Line) (n : ℕ) → isOpen (l .stage) ≡ true → isReturn (l .waiting) && not (termsOf (l .opening .order) .double) ≡ false → misplaced l n ≡ false
+open-placed l n o e =
+    λ j. (not-fresh (l .stage) o j && not (eqb n 0 && eqb (l .present .count) 0 && not (isReturn (l .waiting)))) || e j || (not-shut (l .stage) o j && eqb n 0)
+  where
+    not-shut : (s : Stage) → isOpen s ≡ true → isClosed s ≡ false
+    not-shut Fresh e = refl
+    not-shut Open e = refl
+    not-shut Closed e = no-true e
 
 -- other runs beside the same sections
 runs-kept : (v : Standing) (w : Waiting) (u : Run) → Kept v → isOpen (v .line .stage) ≡ true → Awaits (length (v .sections)) w → Sized u
-    → isReturn w && not (twoWay (v .line .order)) ≡ false → Kept (record { line = withRuns (v .line) w u; sections = v .sections })
+    → isReturn w && not (termsOf (v .line .opening .order) .double) ≡ false → Kept (record { line = withRuns (v .line) w u; sections = v .sections })
 runs-kept v w u i o k h e =
     record {
       few = i .few;
@@ -109,7 +124,7 @@ runs-kept v w u i o k h e =
 -- ---- the end of a run
 
 -- a section more, one that fits and for which there is room
-section-kept : (v : Standing) (x : Section) → Kept v → isOpen (v .line .stage) ≡ true → length (v .sections) < 64 → sectionFits x ≡ true → narrow x ≡ true
+section-kept : (v : Standing) (x : Section) → Kept v → isOpen (v .line .stage) ≡ true → length (v .sections) < 64 → sectionFits x ≡ true → narrow (termsOf (v .line .opening .order)) x ≡ true
     → Kept (withSection v x)
 section-kept v x i o room e n =
     record {
@@ -122,7 +137,7 @@ section-kept v x i o room e n =
       closed = λ c. rw (length-append (v .sections) (x ∷ [])) (omega arith);
       placed = open-placed (withSection v x .line) (length (withSection v x .sections)) o refl;
       number = i .number;
-      narrow-sections = all-append narrow (v .sections) (x ∷ []) (i .narrow-sections) (all-cons narrow x [] n refl);
+      narrow-sections = let p = narrow (termsOf (v .line .opening .order)) in all-append p (v .sections) (x ∷ []) (i .narrow-sections) (all-cons p x [] n refl);
     }
 
 number-size : (n : ℤ) → numberInRange n ≡ true → natAbs n ≤ 9999
@@ -136,7 +151,7 @@ run-kept : (v : Standing) (number : ℤ) → Kept v → refusal v (end-run numbe
 run-kept v number i e =
     let test = fails v (end-run number) e in
     let some : 0 < u .count = omega (arith, eqb-false (u .count) 0 (or-l (eqb (u .count) 0) (eqb (u .count % 2) 1) (test 29))) in
-    go (v .line .waiting) (twoWay (v .line .order)) refl some (i .waiting) (test 31) (test 32)
+    go (v .line .waiting) (terms .double) refl some (i .waiting) (test 31) (test 32)
   where
     running : isOpen (v .line .stage) ≡ true
     running = not-false (isOpen (v .line .stage)) (or-l (not (isOpen (v .line .stage))) (isShut v) (fails v (end-run number) e 21))
@@ -150,18 +165,21 @@ run-kept v number i e =
     n : ℕ
     n = length (v .sections)
 
-    go : (w : Waiting) (t : Bool) → twoWay (v .line .order) ≡ t → 0 < u .count → Awaits n w → not (isReturn w) && leb 64 n ≡ false
-        → outwardOrReturn w false (λ outward run. not (discrepancyWithin (bothWays outward run u))) ≡ false
+    terms : Terms
+    terms = termsOf (v .line .opening .order)
+
+    go : (w : Waiting) (t : Bool) → terms .double ≡ t → 0 < u .count → Awaits n w → not (isReturn w) && leb 64 n ≡ false
+        → outwardOrReturn w false (λ outward run. not (discrepancyWithin (terms .apart) (bothWays outward run u))) ≡ false
         → Kept (outwardOrReturn w
         (cond t (record { line = withRuns (v .line) (Outward number u) noRun; sections = v .sections }) (withSection v (oneWay number u)))
         (λ outward run. withSection v (bothWays outward run u)))
     go Nothing true both some k room d = runs-kept v (Outward number u) noRun i running (i .present, leb-false 64 n room, small) no-run-sized (λ j. not (both j))
     go Nothing false both some k room d =
-        section-kept v (oneWay number u) i running (leb-false 64 n room) (one-way-fits number u (i .present) some) (one-way-narrow number u small (i .present))
+        section-kept v (oneWay number u) i running (leb-false 64 n room) (one-way-fits number u (i .present) some) (one-way-narrow terms number u small (i .present))
     go (Outward outward run) t both some k room d =
-        let near = not-false (discrepancyWithin (bothWays outward run u)) d in
-        section-kept v (bothWays outward run u) i running (k .1) (both-ways-fits outward run u (k .0) (i .present) some near)
-        (both-ways-narrow outward run u (k .2) (k .0) (i .present) near)
+        let near = not-false (discrepancyWithin (terms .apart) (bothWays outward run u)) d in
+        section-kept v (bothWays outward run u) i running (k .1) (both-ways-fits terms (row (v .line .opening .order)) outward run u (k .0) (i .present) some near)
+        (both-ways-narrow terms outward run u (k .2) (k .0) (i .present) near)
 
 -- ---- a call
 
@@ -199,6 +217,8 @@ taken-kept v drop-section i e = runs-kept v Nothing noRun i (not-false (isOpen (
 -- by the tests 5 and 33
 taken-kept v (close-line number end) i e =
     let test = fails v (close-line number end) e in
+    let some : 1 ≤ length (v .sections) =
+    not-empty (v .sections) (or-r (not (eqb (v .line .present .count) 0) || isReturn (v .line .waiting)) (isEmpty (v .sections)) (test 33)) in
     record {
       few = i .few;
       fit = i .fit;
@@ -206,9 +226,8 @@ taken-kept v (close-line number end) i e =
       waiting = i .waiting;
       start = i .start;
       end = not-false (heightInRange end) (test 5);
-      closed =
-          λ c. not-empty (v .sections) (or-r (not (eqb (v .line .present .count) 0) || isReturn (v .line .waiting)) (isEmpty (v .sections)) (test 33));
-      placed = no-stray v i;
+      closed = λ c. some;
+      placed = λ j. no-stray v i j || ne-eqb (length (v .sections)) 0 (λ z. omega arith) j;
       number = i .number;
       narrow-sections = i .narrow-sections;
     }
@@ -220,7 +239,8 @@ fresh-none v i e =
     let n = eqb (length (v .sections)) 0 in
     let u = eqb (v .line .present .count) 0 in
     let w = not (isReturn (v .line .waiting)) in
-    let full = or-l (isFresh (v .line .stage) && not (n && u && w)) (stray v) (i .placed) in
+    let shut = isClosed (v .line .stage) && n in
+    let full = or-l (isFresh (v .line .stage) && not (n && u && w)) (stray v) (or-l (isFresh (v .line .stage) && not (n && u && w) || stray v) shut (i .placed)) in
     let empty = not-false (n && u && w) (sym (λ j. e j && not (n && u && w)) ∙ full) in
     eqb→eq (length (v .sections)) 0 (holds (and-l n u (and-l (n && u) w empty)))
 
@@ -237,7 +257,7 @@ pub no-shorter : (v : Standing) (c : Call) → Kept v → refusal v c ≡ 0 → 
 no-shorter v (open-line order instrument number height) i e =
     omega (arith, fresh-none v i (not-false (isFresh (v .line .stage)) (fails v (open-line order instrument number height) e 21)))
 no-shorter v (station kb kf readings) i e = le-refl (length (v .sections))
-no-shorter v (end-run number) i e = run-longer v number (v .line .waiting) (twoWay (v .line .order))
+no-shorter v (end-run number) i e = run-longer v number (v .line .waiting) (termsOf (v .line .opening .order) .double)
 no-shorter v drop-run i e = le-refl (length (v .sections))
 no-shorter v drop-section i e = le-refl (length (v .sections))
 no-shorter v (close-line number end) i e = le-refl (length (v .sections))
@@ -262,14 +282,14 @@ calls-kept calls = after-kept calls freshReading fresh-kept
 
 -- ---- so a book made by calls never meets the test of 20
 
-pub never-broken : (calls : List Call) → broken (standing (after freshReading calls)) ≡ false
-never-broken calls = kept-whole (standing (after freshReading calls)) (calls-kept calls)
+pub never-broken : (calls : List Call) (c : Call) → broken (standing (after freshReading calls)) c ≡ false
+never-broken calls c = kept-whole (standing (after freshReading calls)) (calls-kept calls) c
 
 -- and a book gives the number that the rules give
 pub same-refusal : (v : Standing) (c : Call) → Kept v → bookRefusal v c ≡ refusal v c
 unfolding bookRefusal
 same-refusal v c i =
-    ap (λ (b : Bool). firstOf (inputTests c ++ ((20, b) ∷ stateTests v c))) (kept-whole v i) ∙ first-skips (inputTests c) (stateTests v c) 20
+    ap (λ (b : Bool). firstOf (inputTests c ++ ((20, b) ∷ stateTests v c))) (kept-whole v i c) ∙ first-skips (inputTests c) (stateTests v c) 20
 
 -- ---- the length
 

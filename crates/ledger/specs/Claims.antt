@@ -1,19 +1,19 @@
 -- What is claimed of every list of calls from a fresh book: of the closing taken in it (demand 3 of document 01), of the order of refusals, and of refused
 -- and dropped calls.
 use mathlib.Core.Path.{_≡_}
-use mathlib.Core.Bool.{cond}
+use mathlib.Core.Bool.{true, cond}
 use mathlib.Core.List.{List, [], _∷_, _++_}
 use mathlib.Core.Option.{none}
 use lib.Dec.{eqb}
-use lib.IntN.{ℤ, pos, negℤ}
+use lib.IntN.{pos, negℤ}
 use lib.Signed.{_≤ℤ_}
 use Rattle.numbers.specs.Tables.{Lowest}
 use Rattle.adjust.specs.declared.Point.{Point}
 use Rattle.adjust.specs.Line.{frameOf, Closing, closing}
 use Rattle.adjust.specs.Claims.{Near, corrections, lastHeight}
 use Rattle.rules.specs.declared.Stage.the-variants.{Open, Closed}
-use Rattle.rules.specs.Standing.{Standing, broken}
-use Rattle.rules.specs.Rules.{Call, drop-run, drop-section, close-line, inputTests, stateTests, bookRefusal, before30}
+use Rattle.rules.specs.Standing.{Standing}
+use Rattle.rules.specs.Rules.{Call, drop-run, drop-section, isClosing, broken, inputTests, stateTests, bookRefusal, before30}
 use Rattle.ledger.specs.Plain.{Reading, freshReading, after, next, taken, refusal, standing, withLists, closings}
 
 -- ---- a closing
@@ -23,31 +23,31 @@ abbrev pub others : List Point → List Point
 others [] = []
 others (p ∷ ps) = ps
 
--- `gave` is what closing the standing list v on the known height `end` gave
-pub record SoundClosing (v : Standing) (end : ℤ) (gave : Closing) : Type 0 where
+-- `gave` is what closing a line gave that then stood as v
+pub record SoundClosing (v : Standing) (gave : Closing) : Type 0 where
   -- W, L, n, T, the verdict and each point are what the formulas make of v and the two known heights
-  pub figures : gave ≡ closing (v .line .order) (v .line .start) end (v .sections)
+  pub figures : gave ≡ closing (v .line .opening) (v .line .end) (v .sections)
   -- the bounds of `near` are multiples of L, so they bind
   pub long : pos 1 ≤ℤ gave .summary .distance
   -- the corrections of all points use up the closure
   pub used-up : corrections (gave .points) ≡ negℤ (gave .summary .closure)
   -- the last height is the known one
-  pub last : lastHeight (pos 0) (gave .points) ≡ end
-  pub near : Near (frameOf (v .line .start .height) end (v .sections)) (pos 0) (pos 0) (v .sections) (others (gave .points))
+  pub last : lastHeight (pos 0) (gave .points) ≡ v .line .end
+  pub near : Near (frameOf (v .line .opening .start .height) (v .line .end) (v .sections)) (pos 0) (pos 0) (v .sections) (others (gave .points))
 
--- one closing was taken in the list, of the standing list that the calls before it left; it was sound, and no later call changed anything.
+-- one closing was taken in the list, of what the calls before it left; it was sound, and no later call changed anything.
 -- `all` is what the list's closings gave
 pub record ClosedOnce (calls : List Call) (all : List Closing) : Type 0 where
   pub before : List Call
-  pub number : ℤ
-  pub end : ℤ
+  pub call : Call
   pub later : List Call
-  pub split : calls ≡ before ++ (close-line number end ∷ later)
-  pub accepted : refusal (after freshReading before) (close-line number end) ≡ 0
+  pub split : calls ≡ before ++ (call ∷ later)
+  pub closes : isClosing call ≡ true
+  pub accepted : refusal (after freshReading before) call ≡ 0
   pub gave : Closing
   pub once : all ≡ gave ∷ []
-  pub sound : SoundClosing (standing (after freshReading before)) end gave
-  pub stays : after freshReading calls ≡ taken (after freshReading before) (close-line number end)
+  pub sound : SoundClosing (standing (taken (after freshReading before) call)) gave
+  pub stays : after freshReading calls ≡ taken (after freshReading before) call
 
 -- whatever the calls, taken or refused: a line that they leave closed was closed once and soundly
 abbrev pub EveryList : Type 0
@@ -57,7 +57,7 @@ EveryList = (calls : List Call) → after freshReading calls .stage ≡ Closed �
 
 -- a book answers the lowest number that applies
 abbrev pub LowestGiven : Type 0
-LowestGiven = (v : Standing) (c : Call) → Lowest before30 (inputTests c ++ ((20, broken v) ∷ stateTests v c)) (bookRefusal v c)
+LowestGiven = (v : Standing) (c : Call) → Lowest before30 (inputTests c ++ ((20, broken v c) ∷ stateTests v c)) (bookRefusal v c)
 
 -- ---- refused calls
 

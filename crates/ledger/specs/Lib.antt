@@ -1,4 +1,5 @@
 pub mod Plain
+pub mod Entries
 pub mod Claims
 pub mod Trace
 pub mod Worked

@@ -8,22 +8,21 @@ use lib.ListN.{length}
 use lib.Dec.{eqb}
 use lib.IntN.{ℤ, pos}
 use Rattle.numbers.specs.Whole.{sum, lastOf}
-use Rattle.station.specs.declared.Order.{Order}
 use Rattle.station.specs.declared.Order.the-variants.{Fourth}
-use Rattle.station.specs.declared.Instrument.{Instrument}
 use Rattle.station.specs.declared.Instrument.the-variants.{Ds3}
 use Rattle.station.specs.Station.{Station, stationOf, sights, sightDifference, twiceHeight}
-use Rattle.adjust.specs.declared.Benchmark.{Benchmark}
+use Rattle.adjust.specs.declared.Opening.{Opening}
 use Rattle.adjust.specs.declared.Section.{Section}
+use Rattle.adjust.specs.Terms.{termsOf}
 use Rattle.adjust.specs.Line.{Closing, closing}
 use Rattle.rules.specs.declared.Stage.{Stage}
 use Rattle.rules.specs.declared.Stage.the-variants.{Fresh, Open, Closed}
 use Rattle.rules.specs.declared.Run.{Run}
 use Rattle.rules.specs.declared.Waiting.{Waiting}
 use Rattle.rules.specs.declared.Waiting.the-variants.{Nothing, Outward}
-use Rattle.rules.specs.Standing.{Standing, oneWay, bothWays, twoWay}
+use Rattle.rules.specs.Standing.{Standing, oneWay, bothWays}
 use Rattle.rules.specs.Rules as Rules
-use Rattle.rules.specs.Rules.{Call, open-line, station, end-run, drop-run, drop-section, close-line, orderOf, instrumentOf}
+use Rattle.rules.specs.Rules.{Call, open-line, station, end-run, drop-run, drop-section, close-line, openingOf, isClosing}
 
 -- a finished section: its number, its outward list and, where it was levelled both ways, its return list
 pub record Levelled : Type 0 where
@@ -38,9 +37,7 @@ pub record Awaited : Type 0 where
 
 pub record Reading : Type 0 where
   pub stage : Stage
-  pub order : Order
-  pub instrument : Instrument
-  pub start : Benchmark
+  pub opening : Opening
   -- the end height; a placeholder until the line is closed
   pub end : ℤ
   pub sections : List Levelled
@@ -76,9 +73,7 @@ standing r =
       line =
           record {
             stage = r .stage;
-            order = r .order;
-            instrument = r .instrument;
-            start = r .start;
+            opening = r .opening;
             end = r .end;
             waiting = waitingOf (r .waiting);
             present = runOf (r .present);
@@ -93,9 +88,7 @@ abbrev pub withLists : Reading → List Levelled → Option Awaited → List Sta
 withLists r sections waiting present =
     record {
       stage = r .stage;
-      order = r .order;
-      instrument = r .instrument;
-      start = r .start;
+      opening = r .opening;
       end = r .end;
       sections = sections;
       waiting = waiting;
@@ -110,7 +103,7 @@ runEnded r number = go (r .waiting)
 
     go : Option Awaited → Reading
     go none =
-        cond (twoWay (r .order))
+        cond (termsOf (r .opening .order) .double)
         (withLists r (r .sections) (some (record { number = number; outward = r .present })) [])
         (finished (record { number = number; outward = r .present; back = none }))
     go (some w) = finished (record { number = w .number; outward = w .outward; back = some (r .present) })
@@ -119,9 +112,7 @@ abbrev pub taken : Reading → Call → Reading
 taken r (open-line order instrument number height) =
     record {
       stage = Open;
-      order = orderOf order;
-      instrument = instrumentOf instrument;
-      start = record { number = number; height = height };
+      opening = openingOf order instrument number height;
       end = pos 0;
       sections = [];
       waiting = none;
@@ -134,9 +125,7 @@ taken r drop-section = withLists r (r .sections) none []
 taken r (close-line number end) =
     record {
       stage = Closed;
-      order = r .order;
-      instrument = r .instrument;
-      start = r .start;
+      opening = r .opening;
       end = end;
       sections = r .sections;
       waiting = r .waiting;
@@ -157,9 +146,7 @@ abbrev pub freshReading : Reading
 freshReading =
     record {
       stage = Fresh;
-      order = Fourth;
-      instrument = Ds3;
-      start = record { number = pos 0; height = pos 0 };
+      opening = record { order = Fourth; instrument = Ds3; start = record { number = pos 0; height = pos 0 } };
       end = pos 0;
       sections = [];
       waiting = none;
@@ -176,16 +163,11 @@ refusals r (c ∷ cs) = refusal r c ∷ refusals (next r c) cs
 
 -- the figures of closing a reading's line on the end height that it keeps
 abbrev pub figuresOf : Reading → Closing
-figuresOf r = closing (r .order) (r .start) (r .end) (standing r .sections)
+figuresOf r = closing (r .opening) (r .end) (standing r .sections)
 
 -- what a call that is taken gives beside the book: a closing its figures, another call nothing
 abbrev pub given : Reading → Call → List Closing
-given r (open-line order instrument number height) = []
-given r (station kb kf readings) = []
-given r (end-run number) = []
-given r drop-run = []
-given r drop-section = []
-given r (close-line number end) = figuresOf (taken r (close-line number end)) ∷ []
+given r c = cond (isClosing c) (figuresOf (taken r c) ∷ []) []
 
 -- what the closings taken in a list of calls gave, in order
 abbrev pub closings : Reading → List Call → List Closing

@@ -1,25 +1,24 @@
--- A book's calls as a caller makes them: from a fresh book, each on the book that the call before it left, in one step (`calls`) or as a change that is then
--- made (`changes`). Of each no more is known than its function's contract ensures. `Learnt` is that contract, read from the function itself.
+-- A book's calls as a caller makes them: from a fresh book, each on the book that the call before it left, by its own function or by its record (`take`). Of each no more is known than its function's contract ensures. `Learnt` is that contract, read from the function itself.
 use mathlib.Core.Path.{_≡_}
-use mathlib.Core.Bool.{Bool, true, false, not, cond}
+use mathlib.Core.Bool.{true, false, not, cond}
 use mathlib.Core.List.{List, [], _∷_, _++_}
-use Prim.Native.Nat.{ℕ, _+_}
+use Prim.Native.Nat.{ℕ}
 use lib.Dec.{eqb}
-use lib.ListN.{take}
 use lib.IntN.{ℤ}
 use Rattle.numbers.specs.Whole.{anyOf}
-use Rattle.adjust.specs.declared.Adjusted.{Adjusted}
 use Rattle.adjust.specs.Line.{Closing}
-use Rattle.adjust.specs.Frames.{adjustedOf}
 use Rattle.adjust.specs.Call.{numberOf}
+use Rattle.records.specs.declared.Tag.{Tag}
 use Rattle.rules.specs.declared.Stage.the-variants.{Closed}
 use Rattle.rules.specs.declared.Book.{Book}
-use Rattle.book.specs.declared.Change.{Change}
+use Rattle.book.specs.declared.Step.{Step}
 use Rattle.book.specs.declared.Outcome.{Outcome}
+use Rattle.book.specs.declared.ClosedFigures.{ClosedFigures}
 use Rattle.book.specs.declared.CloseOutcome.{CloseOutcome}
 use Rattle.rules.specs.Standing.{standingOf, bookWith}
-use Rattle.rules.specs.Rules.{Call, open-line, station, end-run, drop-run, drop-section, close-line}
-use Rattle.book.specs.Calls.{freshBook, closeNumber, gaveOf}
+use Rattle.rules.specs.Rules.{Call, open-line, station, end-run, drop-run, drop-section, close-line, isClosing}
+use Rattle.rules.specs.Records.{callOf}
+use Rattle.book.specs.Calls.{freshBook, closeNumber, closeFigures, gaveOf}
 use Rattle.book.proofs.fresh.Reads as fresh-reads
 use Rattle.book.proofs.calls.«open».Reads as open-reads
 use Rattle.book.proofs.calls.station.Reads as station-reads
@@ -28,13 +27,7 @@ use Rattle.book.proofs.calls.drop_run.Reads as drop-run-reads
 use Rattle.book.proofs.calls.drop_section.Reads as drop-section-reads
 use Rattle.book.proofs.calls.close_line.Reads as close-line-reads
 use Rattle.book.proofs.calls.figures_of.Reads as figures-of-reads
-use Rattle.book.proofs.changes.«open».Reads as open-change-reads
-use Rattle.book.proofs.changes.station.Reads as station-change-reads
-use Rattle.book.proofs.changes.end_run.Reads as end-run-change-reads
-use Rattle.book.proofs.changes.drop_run.Reads as drop-run-change-reads
-use Rattle.book.proofs.changes.drop_section.Reads as drop-section-change-reads
-use Rattle.book.proofs.changes.close_line.Reads as close-line-change-reads
-use Rattle.book.proofs.changes.change.Reads as change-reads
+use Rattle.book.proofs.calls.take.Reads as take-reads
 use Rattle.ledger.specs.Plain.{freshReading, after, refusals, closings, standing}
 use Rattle.ledger.specs.Claims.{ClosedOnce, takenOnly}
 
@@ -51,51 +44,37 @@ Ensures b drop-run r = drop-run-reads.Learnt tt (b, tt) r (b, tt)
 Ensures b drop-section r = drop-section-reads.Learnt tt (b, tt) r (b, tt)
 Ensures b (close-line number end) r = ⊥
 
-abbrev pub CloseEnsures : Book → ℤ → ℤ → CloseOutcome → Type 0
-CloseEnsures b number end r = close-line-reads.Learnt tt (b, (number, (end, tt))) r (b, (number, (end, tt)))
+-- and of a closing
+abbrev pub CloseEnsures : Book → Call → CloseOutcome → Type 0
+CloseEnsures b (open-line order instrument number height) r = ⊥
+CloseEnsures b (station kb kf readings) r = ⊥
+CloseEnsures b (end-run number) r = ⊥
+CloseEnsures b drop-run r = ⊥
+CloseEnsures b drop-section r = ⊥
+CloseEnsures b (close-line number end) r = close-line-reads.Learnt tt (b, (number, (end, tt))) r (b, (number, (end, tt)))
 
-abbrev pub FiguresEnsures : Book → Adjusted → Type 0
-FiguresEnsures b x = figures-of-reads.Learnt tt (b, tt) x (b, tt)
+abbrev pub FiguresEnsures : Book → ClosedFigures → Type 0
+FiguresEnsures b f = figures-of-reads.Learnt tt (b, tt) f (b, tt)
 
--- of a call as a change, and of the book that a change makes of another
-abbrev pub ChangeEnsures : Book → Call → Change → Type 0
-ChangeEnsures b (open-line order instrument number height) x =
-    open-change-reads.Learnt tt (b, (order, (instrument, (number, (height, tt))))) x (b, (order, (instrument, (number, (height, tt)))))
-ChangeEnsures b (station kb kf readings) x = station-change-reads.Learnt tt (b, (kb, (kf, (readings, tt)))) x (b, (kb, (kf, (readings, tt))))
-ChangeEnsures b (end-run number) x = end-run-change-reads.Learnt tt (b, (number, tt)) x (b, (number, tt))
-ChangeEnsures b drop-run x = drop-run-change-reads.Learnt tt (b, tt) x (b, tt)
-ChangeEnsures b drop-section x = drop-section-change-reads.Learnt tt (b, tt) x (b, tt)
-ChangeEnsures b (close-line number end) x = close-line-change-reads.Learnt tt (b, (number, (end, tt))) x (b, (number, (end, tt)))
+-- of any call, by its record's tag and numbers
+abbrev pub TakeEnsures : Book → Tag → List ℤ → Step → Type 0
+TakeEnsures b tag v s = take-reads.Learnt tt (b, (tag, (v, tt))) s (b, (tag, (v, tt)))
 
-abbrev pub MadeEnsures : Book → Change → Book → Type 0
-MadeEnsures b x m = change-reads.Learnt tt (b, (x, tt)) m (b, (x, tt))
-
-abbrev pub isClosing : Call → Bool
-isClosing (open-line order instrument number height) = false
-isClosing (station kb kf readings) = false
-isClosing (end-run number) = false
-isClosing drop-run = false
-isClosing drop-section = false
-isClosing (close-line number end) = true
-
--- a change that closes the line gives no figures: the book that it makes does, where it was taken
-abbrev pub closingIn : Adjusted → Closing
-closingIn a = record { summary = a .summary; points = take (a .summary .count + 1) (a .points) }
-
-abbrev pub hadOf : Change → Adjusted → List Closing
-hadOf x a = cond (eqb (x .number) 0) (closingIn a ∷ []) []
+-- a record that closes the line gives no figures: the book that it leaves does, where it was taken
+abbrev pub hadOf : Step → ClosedFigures → List Closing
+hadOf s f = cond (eqb (s .number) 0) (gaveOf (f .answer) (f .points)) []
 
 -- the calls made of a book, the numbers that they answered, what its closings gave and the book that was left
 pub data Trace : Book → List Call → List ℕ → List Closing → Book → Type 0 where
   done : {b : Book} → Trace b [] [] [] b
   call : {b e : Book} {c : Call} {cs : List Call} {ns : List ℕ} {gs : List Closing} (r : Outcome) → Ensures b c r → Trace (r .book) cs ns gs e
       → Trace b (c ∷ cs) (numberOf (r .answer) ∷ ns) gs e
-  close : {b e : Book} {number end : ℤ} {cs : List Call} {ns : List ℕ} {gs : List Closing} (r : CloseOutcome) → CloseEnsures b number end r
-      → Trace (r .book) cs ns gs e → Trace b (close-line number end ∷ cs) (closeNumber (r .answer) ∷ ns) (gaveOf r ++ gs) e
-  made : {b m e : Book} {c : Call} {cs : List Call} {ns : List ℕ} {gs : List Closing} (x : Change) → isClosing c ≡ false → ChangeEnsures b c x → MadeEnsures b x m
-      → Trace m cs ns gs e → Trace b (c ∷ cs) (x .number ∷ ns) gs e
-  made-closed : {b m e : Book} {number end : ℤ} {cs : List Call} {ns : List ℕ} {gs : List Closing} (x : Change) (a : Adjusted) → ChangeEnsures b (close-line number end) x
-      → MadeEnsures b x m → FiguresEnsures m a → Trace m cs ns gs e → Trace b (close-line number end ∷ cs) (x .number ∷ ns) (hadOf x a ++ gs) e
+  close : {b e : Book} {c : Call} {cs : List Call} {ns : List ℕ} {gs : List Closing} (r : CloseOutcome) → CloseEnsures b c r → Trace (r .book) cs ns gs e
+      → Trace b (c ∷ cs) (closeNumber (r .answer) ∷ ns) (gaveOf (r .answer) (r .points) ++ gs) e
+  took : {b e : Book} {cs : List Call} {ns : List ℕ} {gs : List Closing} (tag : Tag) (v : List ℤ) (s : Step) → isClosing (callOf tag v) ≡ false → TakeEnsures b tag v s
+      → Trace (s .book) cs ns gs e → Trace b (callOf tag v ∷ cs) (s .number ∷ ns) gs e
+  took-closing : {b e : Book} {cs : List Call} {ns : List ℕ} {gs : List Closing} (tag : Tag) (v : List ℤ) (s : Step) (f : ClosedFigures) → isClosing (callOf tag v) ≡ true
+      → TakeEnsures b tag v s → FiguresEnsures (s .book) f → Trace (s .book) cs ns gs e → Trace b (callOf tag v ∷ cs) (s .number ∷ ns) (hadOf s f ++ gs) e
 
 -- ---- the claim about the whole list
 
@@ -111,7 +90,7 @@ pub record SoundTrace (calls : List Call) (ns : List ℕ) (gs : List Closing) (e
   -- a line that the calls left closed was closed once and soundly
   pub closed : e .line .stage ≡ Closed → ClosedOnce calls gs
   -- and its figures can be had of the book again
-  pub again : (c : e .line .stage ≡ Closed) (x : Adjusted) → FiguresEnsures e x → x ≡ adjustedOf (closed c .gave)
+  pub again : (c : e .line .stage ≡ Closed) (x : ClosedFigures) → FiguresEnsures e x → x ≡ closeFigures 0 (closed c .gave)
   -- a line that they did not leave closed gave no closing
   pub unclosed : (e .line .stage ≡ Closed → ⊥) → gs ≡ []
 
