@@ -52,16 +52,17 @@ struct level_leg {
  * 1,200,000 or a Q outside +-2,500,000, 5 for a known height outside -999,999 to 8,999,999; then `heights` is untouched. Library adjust. */
 uint8_t level_adjust(const struct level_leg *legs, size_t count, int64_t start, int64_t end, int64_t *heights, size_t places);
 
-/* A list of calls on a fresh book, LEVEL_CALL_NUMBERS numbers a call; numbers behind the last whole call are not read. A call's first number is its
- * kind, the others are its arguments, and those that it does not have are not looked at:
+/* A list of entries on a fresh book, LEVEL_CALL_NUMBERS numbers an entry. An entry's first number is its kind, the others are its call's arguments, and
+ * those that the call does not have are not looked at:
  *   1 open: order, instrument, start number, start height     4 drop run
  *   2 station: K, u, l, m, r of the back staff, then fore     5 drop section
  *   3 end run: number                                         6 close line: number, height
- * Another kind is refused with 4. Each call's number goes into its place of `numbers`, the figures of the book that is left
- * into `figures`, both as far as there are places. There are LEVEL_FIGURES figures: W, L, n, T and verdict, 0 while the line is not closed; of the
- * present run its stations, the sums of twice-heights, of sights and of d; the finished sections; then number, S, correction and height of the
- * start and each section, 0 where there is none. Library runner. */
-void level_run(const int64_t *calls, size_t count, uint8_t *numbers, size_t answers, int64_t *figures, size_t places);
+ * An entry of another kind is refused with 1, and so is a rest of 1 to 10 numbers at the end, which is one entry more; nothing else of them is looked
+ * at, and the book stays as it is. The answer is how many entries there are. Each entry's number goes into its place of `numbers`, the figures of the
+ * book that is left into `figures`, both as far as there are places. There are LEVEL_FIGURES figures: W, L, n, T and verdict, 0 while the line is not
+ * closed; of the present run its stations, the sums of twice-heights, of sights and of d; the finished sections; then number, S, correction and height
+ * of the start and each section, 0 where there is none. Library runner. */
+size_t level_run(const int64_t *calls, size_t count, uint8_t *numbers, size_t answers, int64_t *figures, size_t places);
 
 /* The whole number nearest to n / d, a tie going to the even one. A d outside 1 to 4 * 10^18 stands for the nearest one inside. Library api. */
 int64_t level_round_half_even(int64_t n, int64_t d);

@@ -118,7 +118,8 @@ pub struct Outcome {
 pub fn run_calls(calls: &[Call]) -> Outcome {
     let list: Vec<i64> = calls.iter().flat_map(Call::numbers).collect();
     let (mut numbers, mut figures) = (vec![0; calls.len()], [0; FIGURES]);
-    run(&list, &mut numbers, &mut figures);
+    let entries = run(&list, &mut numbers, &mut figures);
+    debug_assert_eq!(entries, calls.len());
     let [closure, length, sections, accidental, verdict, stations, twice_height, sights, difference, finished] = first_ten(&figures);
     let points = figures[10..].chunks_exact(4).take(sections as usize + 1).map(point).collect();
     Outcome {

@@ -36,7 +36,7 @@ pub const LONGEST_TEXT: usize = 65_268;
 /// The bytes that a report buffer has at least. No report is longer, whatever the text.
 pub const REPORT_ROOM: usize = 65_536;
 
-/// How many numbers a call has in the list of [`run`].
+/// How many numbers an entry has in the list of [`run`].
 pub const CALL_NUMBERS: usize = 11;
 
 /// How many figures [`run`] has of a book.
@@ -99,12 +99,14 @@ pub fn adjust(start: i64, end: i64, sections: &[Leg], heights: &mut [i64]) -> Re
     Refusal::check(unsafe { raw::level_adjust(sections.as_ptr(), sections.len(), start, end, heights.as_mut_ptr(), heights.len()) })
 }
 
-/// A list of calls on a fresh book, [`CALL_NUMBERS`] numbers a call; numbers behind the last whole call are not read. [`run_calls`] has the same with types. Each call's refusal number, 0 where it is
-/// taken, goes into its place of `numbers`, the figures of the book that is left into `figures`, both as far as there are places.
+/// A list of entries on a fresh book, [`CALL_NUMBERS`] numbers an entry; gives how many entries there are. [`run_calls`] has the same with types. Each
+/// entry's refusal number, 0 where its call is taken, goes into its place of `numbers`, the figures of the book that is left into `figures`, both as far
+/// as there are places: where `numbers` is shorter than the answer, the numbers of the last entries are missing.
 ///
-/// A call's first number is its kind, the others are its arguments, and those that it does not have are not looked at: 1 open (order, instrument,
-/// start number, start height), 2 station (K, u, l, m, r back, then fore), 3 end run (number), 4 drop run, 5 drop section, 6 close line (number,
-/// height). Any other kind is refused with 4.
+/// An entry's first number is its kind, the others are its call's arguments, and those that the call does not have are not looked at: 1 open (order,
+/// instrument, start number, start height), 2 station (K, u, l, m, r back, then fore), 3 end run (number), 4 drop run, 5 drop section, 6 close line
+/// (number, height). An entry of any other kind is refused with 1, and so is a rest of 1 to 10 numbers at the end, which is one entry more; nothing else
+/// of them is looked at, and the book stays as it is.
 ///
 /// The figures are W, L, n, T and verdict, each 0 while the line is not closed; of the present run its stations, the sum of twice-heights, of sights
 /// and of d; the finished sections; then number, S, correction and height of the start and each section, 0 where there is none: [`FIGURES`] numbers.
@@ -115,11 +117,14 @@ pub fn adjust(start: i64, end: i64, sections: &[Leg], heights: &mut [i64]) -> Re
 /// let open = [1, 4, 3, 1, 10_000, 0, 0, 0, 0, 0, 0];
 /// let station = [2, 4787, 1571, 1197, 1384, 6171, 4687, 739, 363, 551, 5239];
 /// let (mut numbers, mut figures) = ([99; 3], [0; FIGURES]);
-/// levelbook::run(&[open, station, station].concat(), &mut numbers, &mut figures);
-/// assert_eq!(numbers, [0, 0, 23]);
+/// let entries = levelbook::run(&[open, station, station].concat(), &mut numbers, &mut figures);
+/// assert_eq!((entries, numbers), (3, [0, 0, 23]));
 /// assert_eq!(figures[5..10], [1, 1665, 750, -2, 0]);
+/// let unknown_kind_and_rest = [7; levelbook::CALL_NUMBERS + 4];
+/// assert_eq!(levelbook::run(&unknown_kind_and_rest, &mut numbers[..1], &mut figures), 2);
+/// assert_eq!(numbers, [1, 0, 23]);
 /// ```
-pub fn run(calls: &[i64], numbers: &mut [u8], figures: &mut [i64]) {
+pub fn run(calls: &[i64], numbers: &mut [u8], figures: &mut [i64]) -> usize {
     // SAFETY: slices of every length are taken, each as a pointer and a length; the first is read and the others written within their lengths.
     unsafe { raw::level_run(calls.as_ptr(), calls.len(), numbers.as_mut_ptr(), numbers.len(), figures.as_mut_ptr(), figures.len()) }
 }

@@ -78,6 +78,27 @@ int main(void)
     assert_eq!(String::from_utf8_lossy(&output.stdout), expected);
 }
 
+/// A list of entries in C: a call that is taken and a rest, with a place for the first number alone.
+#[test]
+fn a_list_in_c() {
+    let source = Path::new(env!("CARGO_TARGET_TMPDIR")).join("list.c");
+    let program = r#"#include "levelbook.h"
+#include <stdio.h>
+int main(void)
+{
+    const int64_t list[LEVEL_CALL_NUMBERS + 1] = {1, 4, 3, 1, 10000};
+    uint8_t numbers[2] = {99, 99};
+    int64_t figures[LEVEL_FIGURES];
+    const size_t entries = level_run(list, LEVEL_CALL_NUMBERS + 1, numbers, 1, figures, LEVEL_FIGURES);
+    printf("%zu %u %u\n", entries, numbers[0], numbers[1]);
+    return 0;
+}
+"#;
+    write(&source, program).expect("a file of the tests");
+    let output = Command::new(compiled("list", &source, &["runner"])).output().expect("the program runs");
+    assert_eq!(output.stdout, b"2 0 99\n");
+}
+
 /// Builds the package's example with the libraries of a folder.
 fn built_with(folder: &Path) -> Output {
     let mut cargo = Command::new(env!("CARGO"));

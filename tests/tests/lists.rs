@@ -1,4 +1,4 @@
-//! Lists of calls run by the proved book, compared with the other implementation's plain reading of them.
+//! Lists of entries run by the proved book, compared with the other implementation's plain reading of their calls.
 use std::collections::BTreeMap;
 
 use level_tests::fraction::narrow;
@@ -12,11 +12,10 @@ use level_tests::write::numbers_of;
 /// The figures of a book: W, L, n, T, verdict, five of the line, and four of each of 65 points.
 const FIGURES: usize = 10 + 4 * 65;
 
-/// A call's numbers; those that its kind does not use are anything.
-fn eleven(random: &mut Random, call: &Call) -> [i64; 11] {
+/// An entry that begins with these numbers; the others are anything.
+fn entry(random: &mut Random, first: &[i64]) -> [i64; 11] {
     let mut numbers = [0; 11].map(|_: i64| random.next() as i64);
-    let used = numbers_of(call);
-    numbers[..used.len()].copy_from_slice(&used);
+    numbers[..first.len()].copy_from_slice(first);
     numbers
 }
 
@@ -80,19 +79,20 @@ fn over<T: Copy>(list: &[T], old: &[T]) -> Vec<T> {
     written
 }
 
-/// Runs a list of calls both ways, and counts the numbers answered; 0 of a closing counts as 100.
+/// Runs a list of calls both ways, with entries of no kind between them and a rest behind them, and counts the calls' numbers and these 1s; 0 of a closing
+/// counts as 100.
 fn compare(random: &mut Random, calls: &[Call], counts: &mut BTreeMap<u8, u64>) {
     let mut reading = Reading::fresh();
     let mut closed = None;
-    let mut expected = Vec::new();
+    let (mut answered, mut expected) = (Vec::new(), Vec::new());
     let mut list = Vec::new();
     for call in calls {
-        let mut numbers = eleven(random, call);
-        if *call == Call::EndRun(0) {
+        if random.chance(1, 60) {
             let none = no_kind(random);
-            numbers[0] = *random.pick(&[3, none]);
+            list.extend(entry(random, &[none]));
+            expected.push(1);
         }
-        list.extend(numbers);
+        list.extend(entry(random, &numbers_of(call)));
         let number = match reading.apply(call) {
             Answer::Refused(number) => number,
             Answer::Taken => 0,
@@ -102,18 +102,21 @@ fn compare(random: &mut Random, calls: &[Call], counts: &mut BTreeMap<u8, u64>) 
                 0
             }
         };
-        *counts.entry(number).or_default() += 1;
+        answered.push(number);
         expected.push(number);
     }
-    compare_typed(calls, &expected, &reading, &closed);
-    for _ in 0..random.below(11) {
-        list.push(random.between(0, 7));
+    compare_typed(calls, &answered, &reading, &closed);
+    let rest = random.below(11);
+    list.extend((0..rest).map(|_| random.between(0, 7)));
+    if rest > 0 {
+        expected.push(1);
     }
-    let places = *random.pick(&[calls.len(), calls.len(), calls.len() + 3, calls.len() / 2]);
+    expected.iter().for_each(|&number| *counts.entry(number).or_default() += 1);
+    let places = *random.pick(&[expected.len(), expected.len(), expected.len() + 3, expected.len() / 2]);
     let answers = vec![99u8; places];
     let room = vec![-7i64; *random.pick(&[FIGURES, FIGURES, FIGURES + 5, 10, 13])];
     let (mut given, mut figures) = (answers.clone(), room.clone());
-    levelbook::run(&list, &mut given, &mut figures);
+    assert_eq!(levelbook::run(&list, &mut given, &mut figures), expected.len(), "{calls:?}");
     assert_eq!(given, over(&expected, &answers), "{calls:?}");
     assert_eq!(figures, over(&figures_of(&reading, &closed), &room), "{calls:?}");
 }
@@ -124,17 +127,13 @@ fn hundred_thousand_lists() {
     let mut counts = BTreeMap::new();
     for _ in 0..100_000 {
         let mut calls = book(&mut random);
-        if random.chance(1, 4) {
-            let place = random.below(calls.len() as u64 + 1) as usize;
-            calls.insert(place, Call::EndRun(0));
-        }
         if random.chance(1, 3) {
             calls.truncate(random.below(calls.len() as u64 + 1) as usize);
         }
         compare(&mut random, &calls, &mut counts);
     }
     println!("{counts:?}");
-    for number in (3..=8).chain(21..=36) {
+    for number in [1].into_iter().chain(3..=8).chain(21..=36) {
         assert!(counts.get(&number).is_some_and(|&count| count >= 20), "too few of {number}: {counts:?}");
     }
     assert_eq!(counts.get(&20), None);
@@ -153,11 +152,13 @@ fn lists_of_any_calls() {
     assert_eq!(counts.get(&20), None);
 }
 
+/// Fewer numbers than an entry has are one entry all the same, whose number is 1.
 #[test]
-fn no_calls() {
+fn a_rest_alone() {
     for length in 0..11 {
-        let mut figures = [5; FIGURES];
-        levelbook::run(&vec![1; length], &mut [], &mut figures);
-        assert_eq!(figures, [0; FIGURES]);
+        let (mut numbers, mut figures) = ([99], [5; FIGURES]);
+        assert_eq!(levelbook::run(&vec![1; length], &mut [], &mut []), length.min(1));
+        assert_eq!(levelbook::run(&vec![1; length], &mut numbers, &mut figures), length.min(1));
+        assert_eq!((numbers, figures), (if length == 0 { [99] } else { [1] }, [0; FIGURES]));
     }
 }

@@ -53,7 +53,7 @@ fn times(n: usize, calls: &[Call]) -> Vec<Call> {
 fn run(calls: &[Call]) -> (Vec<u8>, Vec<i64>) {
     let list: Vec<i64> = calls.iter().flat_map(|call| (0..11).map(|k| call.get(k).copied().unwrap_or(0))).collect();
     let (mut numbers, mut figures) = (vec![99; calls.len()], vec![-1; 270]);
-    levelbook::run(&list, &mut numbers, &mut figures);
+    assert_eq!(levelbook::run(&list, &mut numbers, &mut figures), calls.len());
     (numbers, figures)
 }
 

@@ -1,126 +1,89 @@
--- Laws of calls in lists of numbers: one call, and one more call of a list.
-use mathlib.Core.Path.{_≡_, refl, sym, ap, _∙_}
-use mathlib.Core.Bool.{true, false}
-use mathlib.Core.List.{List, [], _∷_, _++_}
-use Prim.Native.Nat.{ℕ, zero, suc, _+_, _≤_, _<_}
-use native.Mathlib.Numerals.{add-one}
+-- Laws of entries in lists of numbers, and of numbers that are stored one by one.
+use mathlib.Core.Path.{_≡_, refl, sym, ap, subst, _∙_}
+use mathlib.Core.Bool.{Bool, true, false, cond}
+use mathlib.Core.List.{List, [], _∷_}
+use Prim.Native.Nat.{ℕ, zero, suc, _+_, _-_, _*_, _≤_, _<_}
 use native.Mathlib.Omega.{arith}
-use lib.ListN.{length, getD, set, take, drop, length-append}
-use lib.Seq.{drop-cons}
-use lib.IntN.{ℤ, pos}
-use Rattle.numbers.specs.Whole.{eqZ, written}
-use Rattle.rules.specs.Rules.{Call, end-run, drop-run, drop-section}
-use Rattle.numbers.proofs.Arrays.{written-set, written-past}
-use Rattle.ledger.specs.Plain.{Reading, freshReading, after, refusal, refusals, next}
-use Rattle.ledger.proofs.Drops.{after-append}
-use Rattle.ledger.proofs.Whole.{calls-kept}
-use Rattle.ledger.proofs.Traced as Traced
+use lib.Dec.{eqb}
+use lib.ListN.{length, getD, set, drop}
+use lib.Seq.{drop-drop, sets}
+use lib.IntN.{ℤ}
+use Rattle.numbers.specs.Whole.{written}
+use Rattle.numbers.proofs.Arrays.{drop-next, written-none}
+use Rattle.adjust.specs.Sections.{holding}
+use Rattle.adjust.proofs.Lists.{from-length}
+use Rattle.rules.specs.declared.Book.{Book}
+use Rattle.rules.specs.Standing.{standingOf}
+use Rattle.book.specs.declared.CloseAnswer.the-variants.{Closed, NotClosed}
+use Rattle.book.specs.Calls.{closingOf, figuresRefusal, figuresOf}
+use Rattle.ledger.specs.Plain.{freshReading, standing}
+use Rattle.ledger.specs.Entries.{Entry, afterEntries}
+use Rattle.ledger.proofs.Whole.{Kept, fresh-kept}
 use Rattle.ledger.proofs.Again.{bookOf}
-use Rattle.runner.specs.Calls.{argument, openOf, stationOf, closeOf, callOf, numbersAt, firstCalls, stepOf}
+use Rattle.ledger.proofs.Entries.{entries-kept}
+use Rattle.runner.specs.Calls.{firstEntry, firstEntries}
+use Rattle.runner.specs.Figures.{summaryOf}
 
--- ---- one call
+-- ---- entries
 
--- the call of each kind
-module _ (xs : List ℤ) where
-  abbrev Is : ℕ → Type 0
-  Is n = eqZ (argument xs 0) (pos n) ≡ true
+pub entries-long : (n : ℕ) (xs : List ℤ) → length (firstEntries n xs) ≡ n
+unfolding firstEntries
+entries-long zero xs = refl
+entries-long (suc n) xs = ap suc (entries-long n (drop 11 xs))
 
-  abbrev IsNot : ℕ → Type 0
-  IsNot n = eqZ (argument xs 0) (pos n) ≡ false
+-- those of n entries that are left after k of them
+abbrev pub left : ℕ → ℕ → List ℤ → List Entry
+left n k xs = firstEntries (n - k) (drop (k * 11) xs)
 
-  pub kind-1 : Is 1 → callOf xs ≡ openOf xs
-  unfolding callOf
-  kind-1 e = rw (e)
+pub left-next : (n k : ℕ) (xs : List ℤ) → k < n → left n k xs ≡ firstEntry (drop (k * 11) xs) ∷ left n (k + 1) xs
+unfolding firstEntries
+left-next n k xs h =
+    let more : n - k ≡ suc (n - (k + 1)) = omega arith in
+    let place : k * 11 + 11 ≡ (k + 1) * 11 = omega arith in
+    ap (λ (m : ℕ). firstEntries m (drop (k * 11) xs)) more
+    ∙ ap (λ (ys : List ℤ). firstEntry (drop (k * 11) xs) ∷ firstEntries (n - (k + 1)) ys) (drop-drop 11 (k * 11) xs ∙ ap (λ (m : ℕ). drop m xs) place)
 
-  pub kind-2 : IsNot 1 → Is 2 → callOf xs ≡ stationOf xs
-  unfolding callOf
-  kind-2 a e = rw (a, e)
+pub left-done : (n k : ℕ) (xs : List ℤ) → n ≤ k → left n k xs ≡ []
+unfolding firstEntries
+left-done n k xs h = let none : n - k ≡ 0 = omega arith in ap (λ (m : ℕ). firstEntries m (drop (k * 11) xs)) none
 
-  pub kind-3 : IsNot 1 → IsNot 2 → Is 3 → callOf xs ≡ end-run (argument xs 1)
-  unfolding callOf
-  kind-3 a b e = rw (a, b, e)
+-- ---- stores
 
-  pub kind-4 : IsNot 1 → IsNot 2 → IsNot 3 → Is 4 → callOf xs ≡ drop-run
-  unfolding callOf
-  kind-4 a b c e = rw (a, b, c, e)
+module _ {A : Type 0} where
+  stores-none : (i : ℕ) (xs : List A) → sets [] i xs ≡ []
+  stores-none i [] = refl
+  stores-none i (x ∷ xs) = stores-none (suc i) xs
 
-  pub kind-5 : IsNot 1 → IsNot 2 → IsNot 3 → IsNot 4 → Is 5 → callOf xs ≡ drop-section
-  unfolding callOf
-  kind-5 a b c d e = rw (a, b, c, d, e)
+  stores-later : (y : A) (ys : List A) (i : ℕ) (xs : List A) → sets (y ∷ ys) (suc i) xs ≡ y ∷ sets ys i xs
+  stores-later y ys i [] = refl
+  stores-later y ys i (x ∷ xs) = stores-later y _ (suc i) xs
 
-  pub kind-6 : IsNot 1 → IsNot 2 → IsNot 3 → IsNot 4 → IsNot 5 → Is 6 → callOf xs ≡ closeOf xs
-  unfolding callOf
-  kind-6 a b c d f e = rw (a, b, c, d, f, e)
+  -- a list that is stored element by element is written as far as there are places
+  pub stores-written : (xs ys : List A) → sets ys 0 xs ≡ written xs ys
+  stores-written [] ys = sym (written-none ys)
+  stores-written (x ∷ xs) [] = stores-none 1 xs
+  stores-written (x ∷ xs) (y ∷ ys) = stores-later x ys 0 xs ∙ ap (λ (l : List A). x ∷ l) (stores-written xs ys)
 
-  pub no-kind : IsNot 1 → IsNot 2 → IsNot 3 → IsNot 4 → IsNot 5 → IsNot 6 → callOf xs ≡ end-run (pos 0)
-  unfolding callOf
-  no-kind a b c d f e = rw (a, b, c, d, f, e)
+  -- a turn of a loop that stores the list xs
+  pub stores-next : (ys : List A) (at : ℕ) (xs : List A) (k : ℕ) (z : A) → k < length xs
+      → sets (set ys (at + k) (getD xs k z)) (at + (k + 1)) (drop (k + 1) xs) ≡ sets ys (at + k) (drop k xs)
+  stores-next ys at xs k z h =
+      let next : at + (k + 1) ≡ suc (at + k) = omega arith in
+      ap (λ (m : ℕ). sets (set ys (at + k) (getD xs k z)) m (drop (k + 1) xs)) next ∙ ap (sets ys (at + k)) (sym (drop-next xs k z h))
 
--- ---- the numbers of a call
+-- ---- counts that fit
 
-module _ (xs : List ℤ) (at : ℕ) where
-  abbrev from : ℕ → ℕ → List ℤ
-  from j zero = []
-  from j (suc n) = getD xs (at + j) (pos 0) ∷ from (suc j) n
+pub few-closed : (b : Book) → b .sections .count ≤ 64 → summaryOf (figuresOf b .answer) .count ≤ 64
+unfolding figuresOf
+few-closed b h = go (eqb (figuresRefusal b) 0)
+  where
+    go : (t : Bool) → summaryOf (cond t (Closed (closingOf (standingOf b) .summary)) (NotClosed (figuresRefusal b))) .count ≤ 64
+    go true = omega (arith, from-length (b .sections) 0 (b .sections .count))
+    go false = omega arith
 
-  -- n elements from place at + j on
-  from-take : (n j : ℕ) → at + (j + n) ≤ length xs → take n (drop (at + j) xs) ≡ from j n
-  from-take zero j h = refl
-  from-take (suc n) j h =
-      ap (take (suc n)) (drop-cons xs (at + j) (pos 0) (omega arith))
-      ∙ ap (λ (l : List ℤ). getD xs (at + j) (pos 0) ∷ l) (ap (λ (m : ℕ). take n (drop m xs)) place ∙ from-take n (suc j) (omega arith))
-    where
-      place : suc (at + j) ≡ at + suc j
-      place = omega arith
-
-  pub eleven : at + 11 ≤ length xs → getD xs at (pos 0) ∷ from 1 10 ≡ take 11 (drop at xs)
-  eleven h =
-      sym (ap (take 11) (drop-cons xs at (pos 0) (omega arith))
-      ∙ ap (λ (l : List ℤ). getD xs at (pos 0) ∷ l) (ap (λ (m : ℕ). take 10 (drop m xs)) place ∙ from-take 10 1 (omega arith)))
-    where
-      place : suc at ≡ at + 1
-      place = omega arith
-
--- ---- one more call of a list
-
-pub calls-more : (xs : List ℤ) (k : ℕ) → firstCalls xs (k + 1) ≡ firstCalls xs k ++ (callOf (numbersAt xs k) ∷ [])
-unfolding firstCalls
-calls-more xs k = ap (firstCalls xs) (add-one k)
-
-pub calls-long : (xs : List ℤ) (k : ℕ) → length (firstCalls xs k) ≡ k
-unfolding firstCalls
-calls-long xs zero = refl
-calls-long xs (suc k) = length-append (firstCalls xs k) (callOf (numbersAt xs k) ∷ []) ∙ ap (λ (n : ℕ). n + 1) (calls-long xs k) ∙ add-one k
-
-refusals-more : (r : Reading) (cs : List Call) (c : Call) → refusals r (cs ++ (c ∷ [])) ≡ refusals r cs ++ (refusal (after r cs) c ∷ [])
-refusals-more r [] c = refl
-refusals-more r (d ∷ cs) c = ap (λ (l : List ℕ). refusal r d ∷ l) (refusals-more (next r d) cs c)
-
-refusals-long : (r : Reading) (cs : List Call) → length (refusals r cs) ≡ length cs
-refusals-long r [] = refl
-refusals-long r (d ∷ cs) = ap suc (refusals-long (next r d) cs)
-
--- ---- a call on the book that the calls before it left
-
-module _ (cs : List Call) (c : Call) where
-  pub next-book : stepOf (bookOf (after freshReading cs)) c .book ≡ bookOf (after freshReading (cs ++ (c ∷ [])))
-  next-book = Traced.left (after freshReading cs) (calls-kept cs) c ∙ sym (ap bookOf (after-append freshReading cs (c ∷ [])))
-
-  next-number : stepOf (bookOf (after freshReading cs)) c .number ≡ refusal (after freshReading cs) c
-  next-number = Traced.number (after freshReading cs) (calls-kept cs) c
-
-  module _ (ys : List ℕ) (k : ℕ) (long : length cs ≡ k) where
-    size : length (refusals freshReading cs) ≡ k
-    size = refusals-long freshReading cs ∙ long
-
-    pub number-written : k < length ys
-        → set (written (refusals freshReading cs) ys) k (stepOf (bookOf (after freshReading cs)) c .number) ≡ written (refusals freshReading (cs ++ (c ∷ []))) ys
-    number-written h =
-        (λ i. set (written (refusals freshReading cs) ys) (sym size i) (next-number i))
-        ∙ written-set (refusals freshReading cs) ys (refusal (after freshReading cs) c) (omega (arith, size))
-        ∙ ap (λ (l : List ℕ). written l ys) (sym (refusals-more freshReading cs c))
-
-    pub number-left-out : length ys ≤ k → written (refusals freshReading cs) ys ≡ written (refusals freshReading (cs ++ (c ∷ []))) ys
-    number-left-out h =
-        written-past (refusals freshReading cs) ys (refusal (after freshReading cs) c) (omega (arith, size))
-        ∙ ap (λ (l : List ℕ). written l ys) (sym (refusals-more freshReading cs c))
+-- of a book that entries left
+pub few-left : (es : List Entry) {b : Book} → b ≡ bookOf (afterEntries freshReading es) → (b .line .present .count ≤ 200) × (b .sections .count ≤ 64)
+unfolding holding
+few-left es e =
+    let k : Kept (standing (afterEntries freshReading es)) = entries-kept freshReading fresh-kept es in
+    subst (λ (b : Book). (b .line .present .count ≤ 200) × (b .sections .count ≤ 64)) (sym e) (k .present .count, k .few)

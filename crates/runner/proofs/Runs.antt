@@ -1,33 +1,36 @@
--- The figures of a list of calls that leaves the line closed are those of its sound closing, and running a list is making its calls one by one.
+-- The figures of a list of numbers whose entries leave the line closed are those of its sound closing, and running a list is making its calls one by one.
 use mathlib.Core.Path.{_≡_, sym, ap, _∙_}
-use mathlib.Core.List.{List, _++_}
-use Prim.Native.Nat.{ℕ}
+use mathlib.Core.List.{_++_}
 use lib.ListN.{length}
-use lib.IntN.{ℤ}
-use Rattle.adjust.specs.declared.Adjusted.{Adjusted}
 use Rattle.adjust.specs.Sections.{holding}
-use Rattle.adjust.specs.Frames.{adjustedOf}
-use Rattle.book.specs.Calls.{figuresOf}
+use Rattle.rules.specs.declared.Stage.the-variants.{Closed}
+use Rattle.book.specs.declared.ClosedFigures.{ClosedFigures}
+use Rattle.book.specs.Calls.{closeFigures, figuresOf}
 use Rattle.ledger.specs.Plain.{Reading, freshReading, after}
+use Rattle.ledger.specs.Entries.{callsOf}
 use Rattle.ledger.proofs.Whole.{calls-kept}
 use Rattle.ledger.proofs.Every.{every-list, same-figures}
 use Rattle.ledger.proofs.Again.{bookOf, figures-again}
+use Rattle.ledger.proofs.Entries.{reading-calls, numbers-calls}
 use Rattle.ledger.proofs.Traced.{every-trace}
-use Rattle.runner.specs.Calls.{callsOf}
-use Rattle.runner.specs.Figures.{headFigures, pointFigures}
+use Rattle.runner.specs.Calls.{entriesOf}
+use Rattle.runner.specs.Figures.{summaryOf, headFigures, pointFigures}
 use Rattle.runner.specs.Claims.{standingAfter, EveryRun, RunAsMade}
 
 pub every-run : EveryRun
 unfolding holding
 every-run xs shut =
-    let calls = callsOf xs in
-    let r : Reading = after freshReading calls in
-    let again : figuresOf (bookOf r) ≡ adjustedOf (every-list calls shut .gave) = figures-again r (calls-kept calls) shut ∙ ap adjustedOf (same-figures calls shut) in
+    let calls = callsOf (entriesOf xs) in
+    let same = reading-calls freshReading (entriesOf xs) in
+    let closed : after freshReading calls .stage ≡ Closed = ap (λ (r : Reading). r .stage) (sym same) ∙ shut in
+    let again = ap (λ (r : Reading). figuresOf (bookOf r)) same ∙ figures-again (after freshReading calls) (calls-kept calls) closed ∙ ap (closeFigures 0) (same-figures calls closed) in
     record {
-      closing = every-list calls shut;
+      closing = every-list calls closed;
       figures =
-          ap (λ (a : Adjusted). headFigures (a .summary) (standingAfter xs .line .present) (length (standingAfter xs .sections)) ++ pointFigures (a .points)) again;
+          ap (λ (f : ClosedFigures). headFigures (summaryOf (f .answer)) (standingAfter xs .line .present) (length (standingAfter xs .sections)) ++ pointFigures (f .points)) again;
     }
 
 pub run-as-made : RunAsMade
-run-as-made xs b e ns gs f t = let s = every-trace b e (callsOf xs) ns gs f t in (sym (s .numbers), sym (s .book))
+run-as-made xs b e ns gs f t =
+    let s = every-trace b e (callsOf (entriesOf xs)) ns gs f t in
+    (numbers-calls freshReading (entriesOf xs) ∙ sym (s .numbers), ap bookOf (reading-calls freshReading (entriesOf xs)) ∙ sym (s .book))

@@ -1,67 +1,42 @@
--- Calls in a list of numbers, 11 a call: its kind, then its arguments; numbers that its kind does not use are not looked at.
--- 1 open: order, instrument, start number and height. 2 station: the constant and the four readings of the back staff, then of the fore staff.
--- 3 end run: the number. 4 drop run. 5 drop section. 6 close: the last number and the end height.
+-- Entries of a book in a list of numbers, 11 an entry: a kind, then the ten numbers of its record (`callOf` of rules/specs/Records.antt). What is not so
+-- is refused with 1, as a line of a text that is no record is.
 use mathlib.Core.Path.{_≡_, refl}
 use mathlib.Core.Bool.{cond}
 use mathlib.Core.List.{List, [], _∷_, _++_}
-use Prim.Native.Nat.{ℕ, zero, suc, _+_, _*_, _/_}
+use Prim.Native.Nat.{ℕ, zero, suc, _+_, _/_}
+use lib.Dec.{leb}
 use lib.ListN.{length, getD, take, drop}
 use lib.IntN.{ℤ, pos, negsuc}
 use Rattle.numbers.specs.Whole.{eqZ, written}
-use Rattle.rules.specs.declared.Book.{Book}
-use Rattle.rules.specs.Standing.{standingOf}
-use Rattle.rules.specs.Rules.{Call, open-line, station, end-run, drop-run, drop-section, close-line, bookRefusal}
-use Rattle.book.specs.Calls.{bookAfter}
-use Rattle.runner.specs.declared.Step.{Step}
+use Rattle.records.specs.declared.Kind.{Kind}
+use Rattle.records.specs.declared.Kind.the-variants.{Record, Refused}
+use Rattle.records.specs.declared.Tag.the-variants.{Lin, Sta, Run, Drr, Drs, End}
+use Rattle.rules.specs.Rules.{open-line, station, close-line}
+use Rattle.ledger.specs.Entries.{Entry, asks, refused, entryOf}
 
--- ---- one call
+-- the record of a kind
+unfoldable pub kindOf : ℤ → Kind
+kindOf k =
+    cond (eqZ k (pos 1)) (Record Lin)
+    (cond (eqZ k (pos 2)) (Record Sta)
+    (cond (eqZ k (pos 3)) (Record Run)
+    (cond (eqZ k (pos 4)) (Record Drr)
+    (cond (eqZ k (pos 5)) (Record Drs)
+    (cond (eqZ k (pos 6)) (Record End)
+    (Refused 1))))))
 
-abbrev pub argument : List ℤ → ℕ → ℤ
-argument xs k = getD xs k (pos 0)
+-- the first entry of a list, refused where the list is too short for it
+unfoldable pub firstEntry : List ℤ → Entry
+firstEntry xs = cond (leb 11 (length xs)) (entryOf (kindOf (getD xs 0 (pos 0))) (take 10 (drop 1 xs))) (refused 1)
 
--- upper thread, lower thread, black middle and red middle, from place k on
-abbrev pub readings : List ℤ → ℕ → List ℤ
-readings xs k = argument xs k ∷ argument xs (k + 1) ∷ argument xs (k + 2) ∷ argument xs (k + 3) ∷ []
+-- the first n entries
+unfoldable pub firstEntries : ℕ → List ℤ → List Entry
+firstEntries zero xs = []
+firstEntries (suc n) xs = firstEntry xs ∷ firstEntries n (drop 11 xs)
 
-abbrev pub openOf : List ℤ → Call
-openOf xs = open-line (argument xs 1) (argument xs 2) (argument xs 3) (argument xs 4)
-
-abbrev pub stationOf : List ℤ → Call
-stationOf xs = station (argument xs 1) (argument xs 6) (readings xs 2 ∷ readings xs 7 ∷ [])
-
-abbrev pub closeOf : List ℤ → Call
-closeOf xs = close-line (argument xs 1) (argument xs 2)
-
--- a kind that is no call's ends a run on the number 0, which is refused with 4
-unfoldable pub callOf : List ℤ → Call
-callOf xs =
-    cond (eqZ (argument xs 0) (pos 1)) (openOf xs)
-    (cond (eqZ (argument xs 0) (pos 2)) (stationOf xs)
-    (cond (eqZ (argument xs 0) (pos 3)) (end-run (argument xs 1))
-    (cond (eqZ (argument xs 0) (pos 4)) drop-run
-    (cond (eqZ (argument xs 0) (pos 5)) drop-section
-    (cond (eqZ (argument xs 0) (pos 6)) (closeOf xs) (end-run (pos 0)))))))
-
--- ---- a list of calls
-
--- the numbers of call k
-abbrev pub numbersAt : List ℤ → ℕ → List ℤ
-numbersAt xs k = take 11 (drop (k * 11) xs)
-
--- the first n calls
-unfoldable pub firstCalls : List ℤ → ℕ → List Call
-firstCalls xs zero = []
-firstCalls xs (suc n) = firstCalls xs n ++ (callOf (numbersAt xs n) ∷ [])
-
--- a rest of fewer than 11 numbers is no call
-abbrev pub callsOf : List ℤ → List Call
-callsOf xs = firstCalls xs (length xs / 11)
-
--- ---- what is answered
-
--- what a call answers, by document 01's number, and the book that it leaves
-abbrev pub stepOf : Book → Call → Step
-stepOf b c = record { number = bookRefusal (standingOf b) c; book = bookAfter b c }
+-- all entries; a rest of 1 to 10 numbers is one too
+abbrev pub entriesOf : List ℤ → List Entry
+entriesOf xs = firstEntries ((length xs + 10) / 11) xs
 
 -- ---- worked
 
@@ -76,12 +51,12 @@ example =
     ++ (pos 7 ∷ pos 2 ∷ pos 0 ∷ pos 0 ∷ pos 0 ∷ nothingMore)
     ++ (pos 4 ∷ [])
 
-pub example-calls : callsOf example
-    ≡ open-line (pos 4) (pos 3) (pos 1) (pos 10000)
-    ∷ station (pos 4687) (pos 4787) ((pos 1571 ∷ pos 1197 ∷ pos 1384 ∷ pos 6171 ∷ []) ∷ (pos 739 ∷ pos 363 ∷ pos 551 ∷ pos 5239 ∷ []) ∷ [])
-    ∷ close-line (pos 2) (negsuc 0) ∷ end-run (pos 0) ∷ []
-unfolding firstCalls callOf
-example-calls = refl
+pub example-entries : entriesOf example
+    ≡ asks (open-line (pos 4) (pos 3) (pos 1) (pos 10000))
+    ∷ asks (station (pos 4687) (pos 4787) ((pos 1571 ∷ pos 1197 ∷ pos 1384 ∷ pos 6171 ∷ []) ∷ (pos 739 ∷ pos 363 ∷ pos 551 ∷ pos 5239 ∷ []) ∷ []))
+    ∷ asks (close-line (pos 2) (negsuc 0)) ∷ refused 1 ∷ refused 1 ∷ []
+unfolding firstEntries firstEntry kindOf
+example-entries = refl
 
 pub example-written : (written {A = ℕ} (1 ∷ 2 ∷ 3 ∷ []) (7 ∷ 8 ∷ []) ≡ 1 ∷ 2 ∷ []) × (written {A = ℕ} (1 ∷ []) (7 ∷ 8 ∷ []) ≡ 1 ∷ 8 ∷ [])
 example-written = (refl, refl)

@@ -6,7 +6,14 @@ use Rattle.adjust.specs.declared.Point.{Point}
 use Rattle.adjust.specs.declared.Summary.{Summary}
 use Rattle.rules.specs.declared.Run.{Run}
 use Rattle.rules.specs.declared.Book.{Book}
+use Rattle.book.specs.declared.CloseAnswer.{CloseAnswer}
+use Rattle.book.specs.declared.CloseAnswer.the-variants.{Closed, NotClosed}
 use Rattle.book.specs.Calls.{figuresOf}
+
+-- of a closed book its summary, of another zeros
+abbrev pub summaryOf : CloseAnswer → Summary
+summaryOf (Closed s) = s
+summaryOf (NotClosed n) = record { closure = pos 0; distance = pos 0; count = 0; accidental = pos 0; verdict = 0 }
 
 -- W, L, n, T and the verdict; the present run's count, G, s and sum of d; the number of sections
 abbrev pub headFigures : Summary → Run → ℕ → List ℤ
@@ -19,6 +26,6 @@ unfoldable pub pointFigures : List Point → List ℤ
 pointFigures [] = []
 pointFigures (p ∷ ps) = p .number ∷ p .distance ∷ p .correction ∷ p .height ∷ pointFigures ps
 
--- the closing's figures are those of a closed book, and zeros of another
+-- the points of a book that is not closed are zeros too
 abbrev pub bookFigures : Book → List ℤ
-bookFigures b = headFigures (figuresOf b .summary) (b .line .present) (b .sections .count) ++ pointFigures (figuresOf b .points)
+bookFigures b = headFigures (summaryOf (figuresOf b .answer)) (b .line .present) (b .sections .count) ++ pointFigures (figuresOf b .points)

@@ -1,126 +1,113 @@
-// Lists of calls, as numbers in a lent slice: 11 a call (specs/Calls.antt).
+// Entries of a book in a lent list of numbers, 11 an entry (specs/Calls.antt).
 ghost use mathlib.Core.Path.{_≡_};
-ghost use Prim.Native.Nat.{_+_, _≤_};
-ghost use lib.ListN.{length, take, drop};
-ghost use Rattle.rules.specs.Standing.{bookWith};
+ghost use Prim.Native.Nat.{_+_, _/_};
+ghost use lib.ListN.{length, set};
 ghost use Rattle.numbers.specs.Whole.{written};
+ghost use Rattle.rules.specs.Standing.{bookWith};
 ghost use Rattle.book.specs.Calls.{freshBook};
-ghost use Rattle.book.specs.Changes.{Makes};
-ghost use Rattle.ledger.specs.Plain.{freshReading, after, refusals, standing};
-ghost use Rattle.runner.specs.Calls.{openOf, stationOf, callOf, callsOf, stepOf};
+ghost use Rattle.ledger.specs.Plain.{freshReading, standing};
+ghost use Rattle.ledger.specs.Entries.{entryStep, entryRefusals, afterEntries};
+ghost use Rattle.runner.specs.Calls.{kindOf, firstEntry, entriesOf};
 ghost use Rattle.runner.specs.Figures.{bookFigures};
-use book::Change;
-use book::changes;
+use book::Step;
+use book::calls;
+use records::Kind;
+use records::Tag;
 use rules::Book;
 
 mod figures;
 
-// What a call answers, by document 01's number, and the book that it leaves.
-pub struct Step {
-    pub number: u8,
-    pub book: Book,
-}
-
-fn open_change(b: Book, call: [i64; 11]) -> Change
-    ensures { λ r. ⌜ Makes b (openOf call) r ⌝ }
+// The record of a kind.
+fn kind_of(number: i64) -> Kind
+    ensures { λ r. ⌜ r ≡ kindOf number ⌝ }
 {
-    changes::open(b, call[1], call[2], call[3], call[4])
+    match number {
+        1 => Kind::Record(Tag::Lin),
+        2 => Kind::Record(Tag::Sta),
+        3 => Kind::Record(Tag::Run),
+        4 => Kind::Record(Tag::Drr),
+        5 => Kind::Record(Tag::Drs),
+        6 => Kind::Record(Tag::End),
+        _ => Kind::Refused(1),
+    }
 }
 
-fn station_change(b: Book, call: [i64; 11]) -> Change
-    ensures { λ r. ⌜ Makes b (stationOf call) r ⌝ }
+// Ten numbers of a list, copied.
+fn copy_ten(list: &[i64]) -> [i64; 10]
+    requires { ⌜ length (now list) ≡ 10 ⌝ }
+    ensures { λ r. ⌜ r ≡ now (list .entry) ⌝ }
 {
-    let back = [call[2], call[3], call[4], call[5]];
-    let fore = [call[7], call[8], call[9], call[10]];
-    changes::station(b, call[1], call[6], [back, fore])
+    let mut numbers = [0; 10];
+    let mut k = 0;
+    while k < 10 {
+        let number = list[k];
+        numbers[k] = number;
+        k += 1;
+    }
+    numbers
 }
 
-// What a call makes of a book, whatever its numbers.
-pub fn change_of(b: Book, call: [i64; 11]) -> Change
-    ensures { λ r. ⌜ Makes b (callOf call) r ⌝ }
+// The first entry of a list, taken of the book.
+fn take_first(b: Book, list: &[i64]) -> Step
+    ensures { λ r. ⌜ r ≡ entryStep b (firstEntry (now (list .entry))) ⌝ }
 {
-    let kind = call[0];
-    if kind == 1 {
-        return open_change(b, call);
+    if list.len() < 11 {
+        return Step { number: 1, book: b };
     }
-    if kind == 2 {
-        return station_change(b, call);
+    let kind = kind_of(list[0]);
+    match kind {
+        Kind::Record(tag) => calls::take(b, tag, copy_ten(&list[1..11])),
+        Kind::Refused(number) => Step {
+            number: number,
+            book: b,
+        },
     }
-    if kind == 3 {
-        return changes::end_run(b, call[1]);
-    }
-    if kind == 4 {
-        return changes::drop_run(b);
-    }
-    if kind == 5 {
-        return changes::drop_section(b);
-    }
-    if kind == 6 {
-        return changes::close_line(b, call[1], call[2]);
-    }
-    changes::end_run(b, 0)
 }
 
-// One call.
-pub fn run_call(b: Book, call: [i64; 11]) -> Step
-    ensures { λ r. ⌜ r ≡ stepOf b (callOf call) ⌝ }
+// How many entries a list has; a rest is one too.
+fn entry_count(list: &[i64]) -> usize
+    ensures { λ r. ⌜ r ≡ (length (now (list .entry)) + 10) / 11 ⌝ }
 {
-    let c = change_of(b, call);
-    let book = changes::change(b, c);
-    Step {
-        number: c.number,
-        book: book,
+    (list.len() + 10) / 11
+}
+
+// The number of an entry into its place of the lent list, where there is one.
+fn put_number(numbers: &mut [u8], k: usize, number: u8)
+    ensures { λ _. ⌜ now (numbers .exit) ≡ set (now (numbers .entry)) k number ⌝ }
+{
+    if k < numbers.len() {
+        numbers[k] = number;
     }
 }
 
-fn numbers_at(s: &[i64], at: usize) -> [i64; 11]
-    requires { ⌜ at + 11 ≤ length (now s) ⌝ }
-    ensures { λ r. ⌜ r ≡ take 11 (drop at (now (s .entry))) ⌝ }
-{
-    [
-        s[at],
-        s[at + 1],
-        s[at + 2],
-        s[at + 3],
-        s[at + 4],
-        s[at + 5],
-        s[at + 6],
-        s[at + 7],
-        s[at + 8],
-        s[at + 9],
-        s[at + 10],
-    ]
-}
-
-// The calls one after another, the first on a fresh book. Each call's number goes into its place of the lent list, where there is one.
+// The entries one after another, the first on a fresh book. Each entry's number goes into its place of the lent list, where there is one.
 pub fn run_calls(calls: &[i64], numbers: &mut [u8]) -> Book
-    ensures { λ r. ⌜ (r ≡ bookWith freshBook (standing (after freshReading (callsOf (now (calls .entry))))))
-        × (now (numbers .exit) ≡ written (refusals freshReading (callsOf (now (calls .entry)))) (now (numbers .entry))) ⌝ }
+    ensures { λ r. ⌜ (r ≡ bookWith freshBook (standing (afterEntries freshReading (entriesOf (now (calls .entry))))))
+        × (now (numbers .exit) ≡ written (entryRefusals freshReading (entriesOf (now (calls .entry)))) (now (numbers .entry))) ⌝ }
 {
-    let n = calls.len() / 11;
+    let n = entry_count(calls);
     let mut b = book::fresh();
     let mut k = 0;
     while k < n {
-        let call = numbers_at(calls, k * 11);
-        let s = run_call(b, call);
-        let number = s.number;
+        let at = k * 11;
+        let s = take_first(b, &calls[at..]);
         b = s.book;
-        if k < numbers.len() {
-            numbers[k] = number;
-        }
+        put_number(numbers, k, s.number);
         k += 1;
     }
     b
 }
 
-// The same for C and Rust, where each list is a pointer and a length: the figures of the book that the calls leave go into the second lent list,
-// as far as it has places.
+// The same for C and Rust, where each list is a pointer and a length: the figures of the book that the entries leave go into the second lent list,
+// as far as it has places. The answer is how many entries there are, whether or not their numbers had places.
 #[no_mangle]
-pub extern "C" fn level_run(calls: &[i64], numbers: &mut [u8], figures: &mut [i64])
-    ensures { λ _. ⌜ (now (numbers .exit) ≡ written (refusals freshReading (callsOf (now (calls .entry)))) (now (numbers .entry)))
+pub extern "C" fn level_run(calls: &[i64], numbers: &mut [u8], figures: &mut [i64]) -> usize
+    ensures { λ r. ⌜ (r ≡ length (entriesOf (now (calls .entry))))
+        × ((now (numbers .exit) ≡ written (entryRefusals freshReading (entriesOf (now (calls .entry)))) (now (numbers .entry)))
         × (now (figures .exit)
-        ≡ written (bookFigures (bookWith freshBook (standing (after freshReading (callsOf (now (calls .entry))))))) (now (figures .entry))) ⌝ }
+        ≡ written (bookFigures (bookWith freshBook (standing (afterEntries freshReading (entriesOf (now (calls .entry))))))) (now (figures .entry)))) ⌝ }
 {
     let b = run_calls(calls, numbers);
-    figures::write_figures(b, figures)
+    figures::put_book(b, figures);
+    entry_count(calls)
 }

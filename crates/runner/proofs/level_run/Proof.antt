@@ -1,37 +1,27 @@
 -- `level_run` meets its contract.
-use mathlib.Core.Path.{ap, _∙_}
-use Rattle.rules.specs.declared.Book.{Book}
-use Rattle.runner.specs.Calls.{callsOf}
-use Rattle.numbers.specs.Whole.{written}
-use Rattle.runner.specs.Figures.{bookFigures}
-use Rattle.runner.proofs.Lists.{counts}
+use mathlib.Core.Path.{sym, ap, _∙_}
 use borrow.Author.Needs.{needs}
+use Rattle.numbers.specs.Whole.{written}
+use Rattle.rules.specs.declared.Book.{Book}
+use Rattle.runner.specs.Calls.{entriesOf}
+use Rattle.runner.specs.Figures.{bookFigures}
+use Rattle.runner.proofs.Laws.{entries-long, few-left}
 use Rattle.runner.proofs.level_run.Statement.{statement}
 use Rattle.runner.proofs.level_run.Tie as tie
 
-run-calls-requires : tie.Need-run-calls-requires
-run-calls-requires c κs = search needs
-
-write-figures-requires : tie.Need-write-figures-requires
-write-figures-requires c κs =
+put-book-requires : tie.Need-put-book-requires
+put-book-requires c κs =
     let r = c .before .before .before in
-    let s = r .before .before .before in
-    counts (callsOf (s .args .calls .now)) (r .run-calls .ensures .0)
-
-same-length : tie.Need-same-length
-same-length c = search needs
-
-same-length-2 : tie.Need-same-length-2
-same-length-2 c = search needs
+    few-left (entriesOf (r .before .before .before .args .calls .now)) (r .run-calls .ensures .0)
 
 returns : tie.Need-returns
 returns c =
-    let w = c .before in
+    let w = c .before .before in
     let r = w .before .before .before .before in
-    let s = r .before .before .before in
-    (r .run-calls .ensures .1, w .write-figures .ensures ∙ ap (λ (b : Book). written (bookFigures b) (s .args .figures .now)) (r .run-calls .ensures .0))
+    let a = r .before .before .before .args in (
+      c .entry-count .ensures ∙ sym (entries-long _ (a .calls .now)),
+      (r .run-calls .ensures .1, w .put-book .ensures ∙ ap (λ (b : Book). written (bookFigures b) (a .figures .now)) (r .run-calls .ensures .0)),
+    )
 
 pub level-run-spec : {M : Type 1} → statement M
-level-run-spec =
-    tie.close
-    (tie.spec run-calls-requires write-figures-requires same-length same-length-2 returns)
+level-run-spec = tie.close (tie.spec (λ c κs. tt) put-book-requires (λ c κs. tt) (λ c. search needs) (λ c. search needs) returns)

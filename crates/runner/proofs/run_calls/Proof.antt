@@ -1,111 +1,92 @@
--- `run_calls` meets its contract: before call k the book and the numbers written are those of the first k calls.
-use Prim.Native.Nat.{ℕ, _≤_, _<_, _-_, _+_, _/_}
-use native.Mathlib.Omega.{arith}
-use mathlib.Core.Path.{_≡_, sym, ap, subst, _∙_}
+-- `run_calls` meets its contract. The loop's invariant: the book is that of a reading which the entries that are left lead to the reading of all, and their
+-- numbers, stored behind those that are written, are the numbers of all.
+use mathlib.Core.Path.{_≡_, sym, ap, _∙_}
 use mathlib.Core.List.{List}
-use mathlib.Core.Logic.{⊎-elim}
-use lib.ListN.{length, set}
-use borrow.Author.Needs.{needs}
-use Rattle.rules.specs.declared.Book.{Book}
-use Rattle.rules.specs.Rules.{Call}
-use Rattle.numbers.specs.Whole.{written}
-use Rattle.numbers.proofs.Arrays.{written-none, written-long}
-use Rattle.ledger.specs.Plain.{freshReading, after, refusals}
+use Prim.Native.Nat.{ℕ, _≤_, _-_, _+_, _*_}
+use native.Mathlib.Nat.{sub-zero}
+use native.Mathlib.Numerals.{add-one}
+use native.Mathlib.Omega.{arith}
+use lib.ListN.{length, set, drop, length-drop}
+use lib.Seq.{take-all, sets, length-sets}
+use Rattle.book.specs.declared.Step.{Step}
+use Rattle.ledger.specs.Plain.{Reading, freshReading, standing}
+use Rattle.ledger.specs.Entries.{Entry, entryRefusal, entryNext, entryStep, entryRefusals, afterEntries}
+use Rattle.ledger.proofs.Whole.{Kept, fresh-kept}
 use Rattle.ledger.proofs.Again.{bookOf, fresh-holds}
-use Rattle.runner.specs.declared.Step.{Step}
-use Rattle.runner.specs.Calls.{callOf, firstCalls, numbersAt, stepOf}
-use Rattle.runner.proofs.Laws.{calls-more, calls-long, next-book, number-written, number-left-out}
+use Rattle.ledger.proofs.Entries.{entry-kept, entry-step}
+use Rattle.runner.specs.Calls.{firstEntry, firstEntries, entriesOf}
+use Rattle.runner.proofs.Laws.{left, left-next, left-done, stores-written}
 use Rattle.runner.proofs.run_calls.Statement.{statement}
 use Rattle.runner.proofs.run_calls.Tie as tie
 
 abbrev Inv-loop : tie.InvT-loop
 Inv-loop calls numbers₀ n b₀ k₀ numbers b k =
-    (k ≤ n) × ((b ≡ bookOf (after freshReading (firstCalls calls k))) × (numbers ≡ written (refusals freshReading (firstCalls calls k)) numbers₀))
+    (k ≤ n)
+    × ((r : Reading) × Kept (standing r) × (b ≡ bookOf r)
+    × (afterEntries r (left n k calls) ≡ afterEntries freshReading (entriesOf calls))
+    × (sets numbers k (entryRefusals r (left n k calls)) ≡ sets numbers₀ 0 (entryRefusals freshReading (entriesOf calls))))
 
 abbrev μ-loop : tie.MeasureT-loop
 μ-loop calls numbers₀ n b₀ k₀ numbers b k = n - k
 
-fresh-requires : tie.Need-fresh-requires Inv-loop μ-loop
-fresh-requires c κs = search needs
-
 loop-holds : tie.Need-loop-holds Inv-loop μ-loop
-unfolding firstCalls
-loop-holds c = (omega arith, (c .fresh .ensures ∙ fresh-holds, sym (written-none _)))
-
-mul-numbers-at : tie.Need-mul-numbers-at Inv-loop μ-loop
-mul-numbers-at c = omega arith
-
-numbers-at-requires : tie.Need-numbers-at-requires Inv-loop μ-loop
-numbers-at-requires c κs = omega arith
-
-run-call-requires : tie.Need-run-call-requires Inv-loop μ-loop
-run-call-requires c κs = search needs
-
-slice-write-numbers : tie.Need-slice-write-numbers Inv-loop μ-loop
-slice-write-numbers c = search needs
-
-add-k : tie.Need-add-k Inv-loop μ-loop
-add-k c = omega arith
-
-loop-less : tie.Need-loop-less Inv-loop μ-loop
-loop-less c = omega arith
-
-loop-again : tie.Need-loop-again Inv-loop μ-loop
-loop-again c =
-    let call = c .before .before in
-    let l = call .before .before .before in
-    let s = l .before .before .before in
-    let xs = s .args .calls .now in
-    let ys = s .args .numbers .now in
-    let k = l .loop .k in
-    let cs = firstCalls xs k in
-    let one = callOf (numbersAt xs k) in
-    let b : Book = bookOf (after freshReading cs) in
-    let more = calls-more xs k in
-    let stepped : call .run-call .result ≡ stepOf b one =
-    call .run-call .ensures ∙ (λ i. stepOf (l .loop .inv .1 .0 i) (callOf (call .before .numbers-at .ensures i))) in
-    let same : length (l .loop .numbers) ≡ length ys = ap length (l .loop .inv .1 .1) ∙ written-long (refusals freshReading cs) ys in
-    let put : k < length (l .loop .numbers) → set (l .loop .numbers) k (call .run-call .result .number) ≡ written (refusals freshReading (firstCalls xs (k + 1))) ys =
-    λ h. (λ i. set (l .loop .inv .1 .1 i) k (stepped i .number)) ∙ number-written cs one ys k (calls-long xs k) (omega (arith, same))
-    ∙ ap (λ (d : List Call). written (refusals freshReading d) ys) (sym more) in
-    let past : length (l .loop .numbers) ≤ k → l .loop .numbers ≡ written (refusals freshReading (firstCalls xs (k + 1))) ys =
-    λ h. l .loop .inv .1 .1 ∙ number-left-out cs one ys k (calls-long xs k) (omega (arith, same))
-    ∙ ap (λ (d : List Call). written (refusals freshReading d) ys) (sym more) in (
+loop-holds c =
+    let m = c .before in
+    let s = m .before .before in
+    let all : left (m .entry-count .result) 0 (s .args .calls .now) ≡ entriesOf (s .args .calls .now) =
+    ap (λ (n : ℕ). firstEntries n (s .args .calls .now)) (sub-zero _ ∙ m .entry-count .ensures) in (
       omega arith,
       (
-        ap (λ (x : Step). x .book) stepped ∙ next-book cs one ∙ ap (λ (d : List Call). bookOf (after freshReading d)) (sym more),
-        ⊎-elim (λ w. w .1 ∙ put (w .0 .taken)) (λ w. w .1 ∙ past (w .0 .left)) (c .if1 .came),
+        freshReading,
+        fresh-kept,
+        c .fresh .ensures ∙ fresh-holds,
+        ap (afterEntries freshReading) all,
+        ap (λ (es : List Entry). sets (s .args .numbers .now) 0 (entryRefusals freshReading es)) all,
       ),
     )
 
-same-length : tie.Need-same-length Inv-loop μ-loop
-same-length c =
-    let l = c .before in
-    let s = l .before .before .before in
-    ap length (l .loop .inv .1 .1) ∙ written-long (refusals freshReading (firstCalls (s .args .calls .now) (l .loop .k))) (s .args .numbers .now)
+loop-again : tie.Need-loop-again Inv-loop μ-loop
+loop-again c =
+    let p = c .before .before in
+    let t = p .before .before .before in
+    let l = t .before .before .before in
+    let xs = l .before .before .before .before .args .calls .now in
+    let n = l .before .before .entry-count .result in
+    let k = l .loop .k in
+    let r = l .loop .inv .1 .0 in
+    let kept = l .loop .inv .1 .1 in
+    let e : Entry = firstEntry (drop (k * 11) xs) in
+    let here = take-all (length xs - k * 11) (drop (k * 11) xs) (omega (arith, length-drop (k * 11) xs)) in
+    let step : t .take-first .result ≡ record { number = entryRefusal r e; book = bookOf (entryNext r e) } =
+    t .take-first .ensures ∙ (λ i. entryStep (l .loop .inv .1 .2 i) (firstEntry (here i))) ∙ entry-step r kept e in
+    let next = left-next n k xs (omega arith) in (
+      omega arith,
+      (
+        entryNext r e,
+        entry-kept r kept e,
+        ap (λ (x : Step). x .book) step,
+        ap (afterEntries r) (sym next) ∙ l .loop .inv .1 .3,
+        (λ i. sets ((p .put-number .ensures ∙ ap (λ (x : Step). set (l .loop .numbers) k (x .number)) step) i) (add-one k i) (entryRefusals (entryNext r e) (left n (k + 1) xs)))
+            ∙ ap (λ (es : List Entry). sets (l .loop .numbers) k (entryRefusals r es)) (sym next) ∙ l .loop .inv .1 .4,
+      ),
+    )
 
 returns : tie.Need-returns Inv-loop μ-loop
 returns c =
     let l = c .before in
-    let s = l .before .before .before in
-    let xs = s .args .calls .now in
-    let all : l .loop .k ≡ length xs / 11 = omega arith in
-    subst (λ (k : ℕ). (l .loop .b ≡ bookOf (after freshReading (firstCalls xs k))) × (l .loop .numbers ≡ written (refusals freshReading (firstCalls xs k)) (s .args .numbers .now))) all (l .loop .inv .1)
+    let s = l .before .before .before .before in
+    let r = l .loop .inv .1 .0 in
+    let done = left-done (l .before .before .entry-count .result) (l .loop .k) (s .args .calls .now) (omega arith) in (
+      l .loop .inv .1 .2 ∙ ap bookOf (ap (afterEntries r) (sym done) ∙ l .loop .inv .1 .3),
+      ap (λ (es : List Entry). sets (l .loop .numbers) (l .loop .k) (entryRefusals r es)) (sym done) ∙ l .loop .inv .1 .4
+          ∙ stores-written (entryRefusals freshReading (entriesOf (s .args .calls .now))) (s .args .numbers .now),
+    )
 
 pub run-calls-spec : {M : Type 1} → statement M
 run-calls-spec =
     tie.close
-    (tie.spec
-    Inv-loop
-    μ-loop
-    fresh-requires
-    loop-holds
-    mul-numbers-at
-    numbers-at-requires
-    run-call-requires
-    slice-write-numbers
-    add-k
-    loop-less
+    (tie.spec Inv-loop μ-loop (λ c κs. tt) (λ c κs. tt) loop-holds
+    (λ c. omega arith) (λ c. omega arith) (λ c. omega arith) (λ c. omega arith) (λ c. omega arith) (λ c κs. tt) (λ c κs. tt) (λ c. omega arith) (λ c. omega arith)
     loop-again
-    same-length
+    (λ c. simp length-sets at (ap length (c .before .loop .inv .1 .4)))
     returns)

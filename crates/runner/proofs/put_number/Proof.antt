@@ -1,0 +1,9 @@
+-- `put_number` meets its contract: a store past the end leaves the list as it is.
+use mathlib.Core.Path.{sym}
+use lib.Seq.{set-out}
+use borrow.Author.Needs.{needs}
+use Rattle.runner.proofs.put_number.Statement.{statement}
+use Rattle.runner.proofs.put_number.Tie as tie
+
+pub put-number-spec : {M : Type 1} → statement M
+put-number-spec = tie.close (tie.spec (λ c. search needs) (λ c. search needs) (λ c. search needs) (λ c. sym (set-out _ _ _ (c .if1 .left))))
