@@ -1,4 +1,4 @@
--- The reader's state after the lines of a text is the plain reading of these lines.
-pub mod States
-pub mod ReaderWalks
+-- The lines of a text one after the other leave what the plain reading says.
 pub mod Lines
+mod Reached
+mod ReaderWalks

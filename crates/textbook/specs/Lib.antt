@@ -1,2 +1,2 @@
 pub mod Text
-pub mod State
+pub mod code

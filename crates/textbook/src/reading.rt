@@ -1,89 +1,66 @@
-// The lines of a text, and what each makes of the state.
+// A text read line by line into a book and the refusals of its lines, which are written where they are.
 ghost use mathlib.Core.Path.{_≡_};
-ghost use mathlib.Core.List.{_∷_};
-ghost use lib.IntN.{pos};
-ghost use lib.ListN.{set};
-ghost use Rattle.book.specs.Changes.{changed};
-ghost use Rattle.textbook.specs.Text.{kindOf};
-ghost use Rattle.textbook.specs.State.{lineStep, freshState, withHeading, stateWith, lineAt, lineCount};
-use book::Change;
-use book::changes;
-use columns::reader::Kind;
-use columns::reader::Line;
-use columns::reader::Tag;
+ghost use lib.ListN.{length, set};
+ghost use Rattle.rules.specs.Standing.{bookIn};
+ghost use Rattle.columns.specs.Texts.{lines};
+ghost use Rattle.ledger.specs.Entries.{entryStep};
+ghost use Rattle.textbook.specs.Text.{lineEntry};
+ghost use Rattle.textbook.specs.code.State.{textFrom, lineAt, lineCount, afterHeading, unread, textState};
+use adjust::Sections;
+use book::decisions::decide;
+use book::storing::store;
 use columns::reader::is_heading;
 use columns::reader::parse_line;
+use records::Kind;
 use rules::Book;
-use runner::change_of;
+use rules::Line;
 
-// What the lines read so far leave: the book, and each line's refusal number in the line's place, 0 where it was taken or not read.
+// What a text leaves: the book, and each line's refusal number in the line's place, 0 where it was taken or not read.
 pub struct State {
     pub book: Book,
     pub refusals: [u8; 778],
 }
 
-// The kind of a tag's calls in a list of numbers.
-fn kind_of(tag: Tag) -> u8
-    ensures { λ r. ⌜ r ≡ kindOf tag ⌝ }
-{
-    match tag {
-        Tag::Lin => 1,
-        Tag::Sta => 2,
-        Tag::Run => 3,
-        Tag::Drr => 4,
-        Tag::Drs => 5,
-        Tag::End => 6,
-    }
+// What a line of the text is answered with, by document 01's number, and what it leaves beside the lists of the sections: the levelling line, and how many
+// sections there are.
+struct Taken {
+    code: u8,
+    line: Line,
+    count: usize,
 }
 
-// A record's call in numbers.
-fn call_of(tag: Tag, v: [i64; 10]) -> [i64; 11]
-    ensures { λ r. ⌜ r ≡ pos (kindOf tag) ∷ v ⌝ }
+// The text from line `number` on, counted from 1; no bytes where it has no such line.
+fn text_from<'a>(text: &'a [u8], number: usize) -> &'a [u8]
+    ensures { λ r. ⌜ now r ≡ textFrom (now (text .entry)) number ⌝ }
 {
-    let mut call = [0i64; 11];
-    call[0] = kind_of(tag) as i64;
-    let mut k = 0;
-    while k < 10 {
-        let x = v[k];
-        k += 1;
-        call[k] = x;
+    if number == 0 {
+        return &text[0..0];
     }
-    call
+    let before = number - 1;
+    if text.len() / 84 < before {
+        return &text[0..0];
+    }
+    let at = 84 * before;
+    &text[at..]
 }
 
-// What a line makes of a book.
-fn line_change(b: Book, line: Line) -> Change
-    ensures { λ r. ⌜ record { number = r .number; book = changed b r } ≡ lineStep b line ⌝ }
+// Line `number`: 84 bytes, or what is left of them.
+fn line_at<'a>(text: &'a [u8], number: usize) -> &'a [u8]
+    ensures { λ r. ⌜ now r ≡ lineAt (now (text .entry)) number ⌝ }
 {
-    let kind = line.kind;
-    let values = line.values;
-    match kind {
-        Kind::Record(tag) => change_of(b, call_of(tag, values)),
-        Kind::Refused(number) => changes::moved(number, b.line),
+    let rest = text_from(text, number);
+    if rest.len() < 84 {
+        return rest;
     }
+    &rest[0..84]
 }
 
-// Before line 1: it counts as refused until it is read.
-pub(crate) fn fresh_state() -> State
-    ensures { λ r. ⌜ r ≡ freshState ⌝ }
+// How many lines a text of n bytes has.
+fn count_lines(n: usize) -> usize
+    ensures { λ r. ⌜ r ≡ lineCount n ⌝ }
 {
-    let mut refusals = [0u8; 778];
-    refusals[1] = 1;
-    let book = book::fresh();
-    State { book, refusals }
-}
-
-fn take_heading(s: State, line: &[u8]) -> State
-    ensures { λ r. ⌜ r ≡ withHeading s (now (line .entry)) ⌝ }
-{
-    let book = s.book;
-    let mut refusals = s.refusals;
-    if is_heading(line) {
-        refusals[1] = 0;
-    } else {
-        refusals[1] = 1;
-    }
-    State { book, refusals }
+    let whole = n / 84;
+    if n % 84 == 0 { whole } else { whole + 1 }
 }
 
 // A line's refusal number into the line's place, where there is one.
@@ -95,57 +72,101 @@ fn set_refusal(refusals: &mut [u8], number: usize, refusal: u8)
     }
 }
 
-// A line of the text and its number: the first is the heading, without which no other is read.
-pub(crate) fn take_line(s: State, line: &[u8], number: usize) -> State
-    ensures { λ r. ⌜ r ≡ stateWith s (now (line .entry)) number ⌝ }
+// A line of the text after the heading: what its record makes of a levelling line and the lent lists of its sections, which are written in place.
+fn take_line(
+    line: Line,
+    count: usize,
+    numbers: &mut [i64; 64],
+    heights: &mut [i64; 64],
+    distances: &mut [i64; 64],
+    discrepancies: &mut [i64; 64],
+    bytes: &[u8],
+) -> Taken
+    requires { ⌜ (length (now numbers) ≡ 64) × ((length (now heights) ≡ 64) × ((length (now distances) ≡ 64) × (length (now discrepancies) ≡ 64))) ⌝ }
+    ensures { λ r. ⌜ record { number = r .code; book = bookIn (r .line) (r .count) (now (numbers .exit)) (now (heights .exit)) (now (distances .exit)) (now (discrepancies .exit)) }
+        ≡ entryStep (bookIn line count (now (numbers .entry)) (now (heights .entry)) (now (distances .entry)) (now (discrepancies .entry))) (lineEntry (now (bytes .entry))) ⌝ }
 {
-    if number == 1 {
-        return take_heading(s, line);
+    let parsed = parse_line(bytes);
+    let kind = parsed.kind;
+    let values = parsed.values;
+    match kind {
+        Kind::Record(tag) => {
+            let c = decide(
+                line,
+                count,
+                numbers,
+                heights,
+                distances,
+                discrepancies,
+                tag,
+                values,
+            );
+            let count = store(c, count, numbers, heights, distances, discrepancies);
+            let code = c.number;
+            let line = c.line;
+            Taken { code, line, count }
+        }
+        Kind::Refused(code) => Taken { code, line, count },
     }
-    let mut refusals = s.refusals;
-    if refusals[1] != 0 {
-        return s;
+}
+
+// The lines after the heading, one after the other. The book is put together when all are taken.
+fn read_lines(text: &[u8]) -> State
+    ensures { λ r. ⌜ r ≡ afterHeading (lines (textFrom (now (text .entry)) 2)) ⌝ }
+{
+    let mut line = book::fresh().line;
+    let mut count = 0;
+    let mut numbers = [0i64; 64];
+    let mut heights = [0i64; 64];
+    let mut distances = [0i64; 64];
+    let mut discrepancies = [0i64; 64];
+    let mut refusals = [0u8; 778];
+    let last = count_lines(text.len());
+    let mut number = 2;
+    while number <= last {
+        let s = take_line(
+            line,
+            count,
+            &mut numbers,
+            &mut heights,
+            &mut distances,
+            &mut discrepancies,
+            line_at(text, number),
+        );
+        set_refusal(&mut refusals, number, s.code);
+        line = s.line;
+        count = s.count;
+        number += 1;
     }
-    let book = s.book;
-    let c = line_change(book, parse_line(line));
-    set_refusal(&mut refusals, number, c.number);
-    if c.finishes {
-        let book = changes::change(book, c);
-        return State { book, refusals };
-    }
-    // no array of the book is written; a call of `change` here as well would copy all of them once more for each line
-    let next = c.line;
-    let sections = book.sections;
-    let book = Book {
-        line: next,
-        sections: sections,
+    let sections = Sections {
+        count,
+        numbers,
+        heights,
+        distances,
+        discrepancies,
     };
+    let book = Book { line, sections };
     State { book, refusals }
 }
 
-// Line `number` of a text, counted from 1; no bytes where the text has no such line.
-pub(crate) fn line_at<'a>(text: &'a [u8], number: usize) -> &'a [u8]
-    ensures { λ r. ⌜ now r ≡ lineAt (now (text .entry)) number ⌝ }
+// Nothing is read of a text without the heading.
+fn unread_state() -> State
+    ensures { λ r. ⌜ r ≡ unread ⌝ }
 {
-    if number == 0 {
-        return &text[0..0];
-    }
-    let before = number - 1;
-    if text.len() / 84 < before {
-        return &text[0..0];
-    }
-    let at = 84 * before;
-    if text.len() - at < 84 {
-        return &text[at..];
-    }
-    let end = at + 84;
-    &text[at..end]
+    let mut refusals = [0u8; 778];
+    refusals[1] = 1;
+    let book = book::fresh();
+    State { book, refusals }
 }
 
-// How many lines a text of n bytes has.
-pub(crate) fn count_lines(n: usize) -> usize
-    ensures { λ r. ⌜ r ≡ lineCount n ⌝ }
+// What is left of a text from line `first` on, read as a text of its own: that line is its heading.
+pub(crate) fn read_from(text: &[u8], first: usize) -> State
+    ensures { λ r. ⌜ r ≡ textState (lines (textFrom (now (text .entry)) first)) ⌝ }
 {
-    let whole = n / 84;
-    if n % 84 == 0 { whole } else { whole + 1 }
+    let book = text_from(text, first);
+    if is_heading(line_at(book, 1)) {
+        read_lines(book)
+    } else {
+        unread_state()
+    }
 }

@@ -1,12 +1,19 @@
 -- `line_at` meets its contract.
-use mathlib.Core.Path.{_≡_, sym, ap, _∙_}
-use Prim.Native.Nat.{ℕ, _+_, _-_, _*_}
+use mathlib.Core.Path.{sym, ap, _∙_}
 use native.Mathlib.Omega.{arith}
-use lib.ListN.{take, drop}
-use Rattle.textbook.proofs.States.{line-is, no-line, last-piece}
+use lib.ListN.{take}
+use lib.Seq.{take-all}
 use borrow.Author.Needs.{needs}
 use Rattle.textbook.proofs.reading.line_at.Statement.{statement}
 use Rattle.textbook.proofs.reading.line_at.Tie as tie
+
+text-from-requires : tie.Need-text-from-requires
+text-from-requires c κs = search needs
+
+returns : tie.Need-returns
+returns c =
+    let r = c .before .text-from in
+    sym (take-all 84 (r .result .now) (omega arith)) ∙ ap (take 84) (r .ensures)
 
 sub-result : tie.Need-sub-result
 sub-result c = search needs
@@ -17,86 +24,10 @@ part-result-start c = search needs
 part-result-end : tie.Need-part-result-end
 part-result-end c = search needs
 
-returns : tie.Need-returns
-returns c = search needs
-
-sub-before : tie.Need-sub-before
-sub-before c = search needs
-
-sub-result-2 : tie.Need-sub-result-2
-sub-result-2 c = search needs
-
-part-result-start-2 : tie.Need-part-result-start-2
-part-result-start-2 c = search needs
-
-part-result-end-2 : tie.Need-part-result-end-2
-part-result-end-2 c = search needs
-
 returns-2 : tie.Need-returns-2
-returns-2 c =
-    let s = c .before .before .before in
-    sym (no-line (s .args .text .now) (s .args .number) (omega arith) (omega arith))
-
-mul-at : tie.Need-mul-at
-mul-at c = search needs
-
-sub-if3 : tie.Need-sub-if3
-sub-if3 c = search needs
-
-sub-result-3 : tie.Need-sub-result-3
-sub-result-3 c = search needs
-
-part-result-start-3 : tie.Need-part-result-start-3
-part-result-start-3 c = search needs
-
-part-result-end-3 : tie.Need-part-result-end-3
-part-result-end-3 c = search needs
-
-returns-3 : tie.Need-returns-3
-returns-3 c =
-    let s = c .before .before .before .before in
-    last-piece (s .args .text .now) (s .args .number) (omega arith) (omega arith)
-
-add-end : tie.Need-add-end
-add-end c = search needs
-
-sub-result-4 : tie.Need-sub-result-4
-sub-result-4 c = search needs
-
-part-result-start-4 : tie.Need-part-result-start-4
-part-result-start-4 c = search needs
-
-part-result-end-4 : tie.Need-part-result-end-4
-part-result-end-4 c = search needs
-
-returns-4 : tie.Need-returns-4
-returns-4 c =
-    let s = c .before .before .before .before in
-    let at = 84 * (s .args .number - 1) in
-    let n : at + 84 - at ≡ 84 = omega arith in
-    ap (λ (k : ℕ). take k (drop at (s .args .text .now))) n ∙ sym (line-is (s .args .text .now) (s .args .number) (omega arith))
+returns-2 c = ap (take 84) (c .before .before .text-from .ensures)
 
 pub line-at-spec : {M : Type 1} → statement M
 line-at-spec =
     tie.close
-    (tie.spec
-    sub-result
-    part-result-start
-    part-result-end
-    returns
-    sub-before
-    sub-result-2
-    part-result-start-2
-    part-result-end-2
-    returns-2
-    mul-at
-    sub-if3
-    sub-result-3
-    part-result-start-3
-    part-result-end-3
-    returns-3
-    add-end
-    sub-result-4
-    part-result-start-4
-    part-result-end-4
-    returns-4)
+    (tie.spec text-from-requires returns sub-result part-result-start part-result-end returns-2)

@@ -1,97 +1,73 @@
--- `take_line` meets its contract: for line 1, without a heading, and for a record, which may finish a section.
+-- `take_line` meets its contract, for a record and for a line that is refused as a line.
 use mathlib.Core.Path.{_≡_, sym, ap, _∙_}
-use mathlib.Core.Bool.{false}
-use lib.ListN.{length, set}
+use mathlib.Core.List.{List}
+use Prim.Native.Nat.{ℕ}
+use Rattle.adjust.proofs.Holding.{Whole}
+use Rattle.records.specs.declared.Kind.{Kind}
+use Rattle.columns.specs.declared.reader.Line.{Line}
 use Rattle.columns.specs.Records.{lineIn}
 use Rattle.rules.specs.declared.Book.{Book}
-use Rattle.book.specs.declared.Change.{Change}
-use Rattle.book.specs.Changes.{changed}
-use Rattle.textbook.specs.State.{lineStep, stateWith}
-use Rattle.textbook.proofs.States.{first-line, no-heading, record-line}
+use Rattle.rules.specs.Standing.{bookIn}
+use Rattle.book.proofs.Joined.{stored-sections, step-made}
+use Rattle.ledger.specs.Entries.{entryOf, entryStep}
+use Rattle.textbook.specs.Text.{lineEntry}
 use borrow.Author.Needs.{needs}
 use Rattle.textbook.proofs.reading.take_line.Statement.{statement}
 use Rattle.textbook.proofs.reading.take_line.Tie as tie
 
-take-heading-requires : tie.Need-take-heading-requires
-take-heading-requires c κs = search needs
-
-returns : tie.Need-returns
-returns c =
-    let s = c .before .before .before in
-    c .take-heading .ensures ∙ sym (first-line (s .args .s) (s .args .line .now) (s .args .number) (c .before .if1 .taken))
-
-array-read-if2 : tie.Need-array-read-if2
-array-read-if2 c = search needs
-
-returns-2 : tie.Need-returns-2
-returns-2 c =
-    let e = c .before .before in
-    let s = e .before .before in
-    sym (no-heading (s .args .s) (s .args .line .now) (s .args .number) (e .if1 .left) (c .if2 .taken))
-
 parse-line-requires : tie.Need-parse-line-requires
 parse-line-requires c κs = search needs
 
-line-change-requires : tie.Need-line-change-requires
-line-change-requires c κs = search needs
+enum-known-kind : tie.Need-enum-known-kind
+enum-known-kind c = search needs
 
-places : (s : tie.Start) → length (s .args .s .refusals) ≡ 778
-places s = search needs
+decide-requires : tie.Need-decide-requires
+decide-requires c κs = search needs
 
-slice-aggregate-set-refusal : tie.Need-slice-aggregate-set-refusal
-slice-aggregate-set-refusal c = search (needs, places (c .before .before .before .before .before .before .before .before))
+store-requires : tie.Need-store-requires
+store-requires c κs = search needs
 
-set-refusal-requires : tie.Need-set-refusal-requires
-set-refusal-requires c κs = search needs
+enum-known-kind-2 : tie.Need-enum-known-kind-2
+enum-known-kind-2 c = search needs
 
-change-requires : tie.Need-change-requires
-change-requires c κs = search needs
+-- the book that is lent
+abbrev book : tie.Start → Book
+book s = let a = s .args in bookIn (a .line) (a .count) (a .numbers .now) (a .heights .now) (a .distances .now) (a .discrepancies .now)
 
--- what the line makes of the state, by the change c of the book
-module _ (c : tie.After-refusals3) where
-  abbrev began : tie.Start
-  began = c .before .before .before .before .before .before .before .before .before .before
+whole : (s : tie.Start) → Whole (book s .sections)
+whole s = record { numbers = s .pre .0; heights = s .pre .1 .0; distances = s .pre .1 .1 .0; discrepancies = s .pre .1 .1 .1 }
 
-  abbrev change : Change
-  change = c .before .before .before .line-change .result
+entry-is : (l : List ℕ) {x : Line} {k : Kind} → x ≡ lineIn l → x .kind ≡ k → entryOf k (x .values) ≡ lineEntry l
+entry-is l {x} p e = (λ i. entryOf (sym e i) (x .values)) ∙ (λ i. entryOf (p i .kind) (p i .values))
 
-  stepped : record { number = change .number; book = changed (began .args .s .book) change } ≡ lineStep (began .args .s .book) (lineIn (began .args .line .now))
-  stepped = c .before .before .before .line-change .ensures ∙ ap (lineStep (began .args .s .book)) (c .before .before .before .before .parse-line .ensures .0)
+returns : tie.Need-returns
+returns c =
+    let m = c .before .before .before .before .before .before in
+    let k = m .before .before .before .before .before .before in
+    let p = k .before .before .before in
+    let s = p .before .before in
+    let e = c .before .store .ensures in
+    let x = m .decide .result in
+    (λ i. record { number = x .number; book = bookIn (x .line) (e .0 i) (e .1 .0 i) (e .1 .1 .0 i) (e .1 .1 .1 .0 i) (e .1 .1 .1 .1 i) })
+    ∙ (λ i. record { number = x .number; book = record { line = x .line; sections = stored-sections (book s .sections) x (whole s) i } })
+    ∙ step-made (book s) (whole s) _ (m .decide .ensures)
+    ∙ ap (entryStep (book s)) (entry-is (s .args .bytes .now) (p .parse-line .ensures .0) (k .kind .given .1))
 
-  with-record : record { book = changed (began .args .s .book) change; refusals = set (began .args .s .refusals) (began .args .number) (change .number) }
-      ≡ stateWith (began .args .s) (began .args .line .now) (began .args .number)
-  with-record =
-      let e = c .before .before .before .before .before .before in
-      (λ i. record { book = stepped i .book; refusals = set (began .args .s .refusals) (began .args .number) (stepped i .number) })
-      ∙ sym (record-line (began .args .s) (began .args .line .now) (began .args .number) (e .before .before .if1 .left) (e .if2 .left))
-
-returns-3 : tie.Need-returns-3
-returns-3 c =
-    let p = c .before .before in
-    (λ i. record { book = c .change .ensures i; refusals = p .before .set-refusal .ensures i }) ∙ with-record p
-
--- a change that finishes no section leaves the arrays as they are
-kept : (b : Book) (x : Change) → x .finishes ≡ false → record { line = x .line; sections = b .sections } ≡ changed b x
-kept b x e = rw (e)
-
-returns-4 : tie.Need-returns-4
-returns-4 c =
-    let e = c .before .before in
-    let p = e .before in
-    (λ i. record { book = kept (began p .args .s .book) (change p) (e .if3 .left) i; refusals = p .before .set-refusal .ensures i }) ∙ with-record p
+returns-2 : tie.Need-returns-2
+returns-2 c =
+    let k = c .before in
+    let p = k .before .before .before in
+    let s = p .before .before in
+    ap (entryStep (book s)) (entry-is (s .args .bytes .now) (p .parse-line .ensures .0) (k .kind2 .given .1))
 
 pub take-line-spec : {M : Type 1} → statement M
 take-line-spec =
     tie.close
     (tie.spec
-    take-heading-requires
-    returns
-    array-read-if2
-    returns-2
     parse-line-requires
-    line-change-requires
-    slice-aggregate-set-refusal
-    set-refusal-requires
-    change-requires
-    returns-3
-    returns-4)
+    enum-known-kind
+    decide-requires
+    store-requires
+    enum-known-kind-2
+    returns
+    returns-2)

@@ -1,9 +1,9 @@
--- `fresh_state` meets its contract.
+-- `unread_state` meets its contract.
 use mathlib.Core.List.{[], _∷_}
 use Rattle.numbers.specs.Whole.{filled}
 use borrow.Author.Needs.{needs}
-use Rattle.textbook.proofs.reading.fresh_state.Statement.{statement}
-use Rattle.textbook.proofs.reading.fresh_state.Tie as tie
+use Rattle.textbook.proofs.reading.unread_state.Statement.{statement}
+use Rattle.textbook.proofs.reading.unread_state.Tie as tie
 
 array-write-refusals : tie.Need-array-write-refusals
 array-write-refusals c = search needs
@@ -14,5 +14,5 @@ fresh-requires c κs = search needs
 returns : tie.Need-returns
 returns c = λ i. record { book = c .fresh .ensures i; refusals = filled 0 778 (0 ∷ 1 ∷ []) }
 
-pub fresh-state-spec : {M : Type 1} → statement M
-fresh-state-spec = tie.close (tie.spec array-write-refusals fresh-requires returns)
+pub unread-state-spec : {M : Type 1} → statement M
+unread-state-spec = tie.close (tie.spec array-write-refusals fresh-requires returns)
