@@ -74,7 +74,7 @@ result-short r = go (isClosed (r .stage))
 closing-count : (r : Reading) → length (closingLines (figuresOf r)) ≡ suc (suc (length (r .sections)))
 closing-count r =
     let ss = map sectionOf (r .sections) in
-    let f = frameOf (r .start .height) (r .end) ss in
+    let f = frameOf (r .opening .start .height) (r .end) ss in
     ap suc (length-map (figuresOf r .points) pointLine) ∙ ap (λ (n : ℕ). suc (suc n)) (points-length f (pos 0) (pos 0) (f .prints *ℤ f .start) ss ∙ length-map (r .sections) sectionOf)
 
 result-few : (r : Reading) → length (resultLines r) ≤ least r + 1

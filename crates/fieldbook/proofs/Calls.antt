@@ -6,11 +6,7 @@ use Prim.Native.Nat.{ℕ}
 use lib.Dec.{ltb}
 use lib.ListN.{length, length-map}
 use Rattle.numbers.specs.Whole.{putAt}
-use Rattle.columns.specs.declared.reader.Kind.{Kind}
-use Rattle.columns.specs.declared.reader.Kind.the-variants.{Record, Refused}
-use Rattle.columns.specs.declared.reader.Line.{Line}
 use Rattle.columns.specs.Lines.{heading, title}
-use Rattle.columns.specs.Records.{lineIn}
 use Rattle.columns.specs.Texts.{lines, joined}
 use Rattle.columns.proofs.Compare.{same-refl}
 use Rattle.adjust.specs.Line.{Closing}
@@ -22,34 +18,18 @@ use Rattle.rules.specs.Rules.{Call}
 use Rattle.rules.specs.Standing.{isClosed}
 use Rattle.ledger.specs.Plain.{Reading, freshReading, after, refusals, sectionOf, figuresOf}
 use Rattle.ledger.specs.Trace.{SoundTrace}
-use Rattle.ledger.proofs.Drops.{after-append}
 use Rattle.ledger.proofs.Every.{every-list, same-figures, none-given}
 use Rattle.ledger.proofs.Whole.{open-not-closed, fresh-not-closed}
 use Rattle.ledger.proofs.Traced.{every-trace}
-use Rattle.textbook.specs.Text.{callsIn, lineRefusal, lineNext, lineRefusals, readingAfter, callsOf, refusalsFrom}
+use Rattle.ledger.proofs.Entries.{reading-calls, numbers-calls}
+use Rattle.textbook.specs.Text.{entries, lineRefusals, readingAfter, callsOf, refusalsFrom}
 use Rattle.fieldbook.specs.Report.{refLine, closingLines, openLine, reportOf, withoutHeading, resultLines, reportLines, report, bufferAfter}
-use Rattle.fieldbook.specs.Claims.{madeLines, callNumbers, EveryText, TextAsMade, EveryReport}
-
-line-calls : (r : Reading) (l : Line) → lineNext r l ≡ after r (callsIn l)
-line-calls r l = go (l .kind)
-  where
-    with-kind : Kind → Line
-    with-kind k = record { kind = k; values = l .values }
-
-    go : (k : Kind) → lineNext r (with-kind k) ≡ after r (callsIn (with-kind k))
-    go (Record t) = refl
-    go (Refused n) = refl
-
-pub reading-calls : (r : Reading) (ls : List (List ℕ)) → readingAfter r ls ≡ after r (callsOf ls)
-reading-calls r [] = refl
-reading-calls r (l ∷ ls) =
-    ap (λ (s : Reading). readingAfter s ls) (line-calls r (lineIn l)) ∙ reading-calls (after r (callsIn (lineIn l))) ls
-    ∙ sym (after-append r (callsIn (lineIn l)) (callsOf ls))
+use Rattle.fieldbook.specs.Claims.{madeLines, EveryText, TextAsMade, EveryReport}
 
 pub every-text : EveryText
 every-text ls e =
     let r : Reading = readingAfter freshReading ls in
-    let same = reading-calls freshReading ls in
+    let same = reading-calls freshReading (entries ls) in
     let shut = sym (ap (λ (s : Reading). s .stage) same) ∙ e in
     record {
       closing = every-list (callsOf ls) shut;
@@ -58,23 +38,9 @@ every-text ls e =
           ∙ ap closingLines (ap figuresOf same ∙ same-figures (callsOf ls) shut);
     }
 
--- the numbers of the lines that are calls are those of their calls
-numbers-calls : (r : Reading) (ls : List (List ℕ)) → callNumbers r ls ≡ refusals r (callsOf ls)
-numbers-calls r [] = refl
-numbers-calls r (l ∷ ls) = go (lineIn l .kind) (λ s. numbers-calls s ls)
-  where
-    with-kind : Kind → Line
-    with-kind k = record { kind = k; values = lineIn l .values }
-
-    go : (k : Kind) → ((s : Reading) → callNumbers s ls ≡ refusals s (callsOf ls))
-        → map (λ (c : Call). lineRefusal r (with-kind k)) (callsIn (with-kind k)) ++ callNumbers (lineNext r (with-kind k)) ls
-        ≡ refusals r (callsIn (with-kind k) ++ callsOf ls)
-    go (Record t) g = ap (λ (ns : List ℕ). lineRefusal r (with-kind (Record t)) ∷ ns) (g (lineNext r (with-kind (Record t))))
-    go (Refused n) g = g r
-
 pub text-as-made : TextAsMade
 unfolding holding
-text-as-made ls b e ns gs f t = (numbers-calls freshReading ls ∙ sym (sound .numbers), go (r .stage) refl)
+text-as-made ls b e ns gs f t = (numbers-calls freshReading (entries ls) ∙ sym (sound .numbers), go (r .stage) refl)
   where
     calls : List Call
     calls = callsOf ls
@@ -83,7 +49,7 @@ text-as-made ls b e ns gs f t = (numbers-calls freshReading ls ∙ sym (sound .n
     r = readingAfter freshReading ls
 
     same : r ≡ after freshReading calls
-    same = reading-calls freshReading ls
+    same = reading-calls freshReading (entries ls)
 
     sound : SoundTrace calls ns gs e
     sound = every-trace b e calls ns gs f t

@@ -1,6 +1,6 @@
 -- How large the figures of a line can be: t of a section, T, W, and the height and the correction of a point.
-use mathlib.Core.Path.{_≡_, ap}
-use mathlib.Core.Bool.{Bool, true, false, cond, _&&_}
+use mathlib.Core.Path.{_≡_, refl, sym, ap, _∙_}
+use mathlib.Core.Bool.{Bool, true, false, not, cond, _&&_, _||_}
 use mathlib.Core.List.{List, [], _∷_, map}
 use Prim.Native.Nat.{ℕ, _+_, _*_, _≤_, _<_}
 use native.Mathlib.Nat.{mul-le-mul, le-of-mul-le-mul-left}
@@ -14,6 +14,7 @@ use Rattle.numbers.proofs.Tests.{and-l, and-r}
 use Rattle.numbers.proofs.All.{All, all-head, all-tail}
 use Rattle.numbers.proofs.Parts.{ints, negPart, parts-add, parts-sub, parts-times, parts-abs}
 use Rattle.numbers.proofs.Sizes.{abs-add, abs-sub, abs-mul, square-abs, within-size}
+use Rattle.roots.specs.Limit.{isWithin}
 use Rattle.roots.proofs.LimitLaws.{within-le}
 use Rattle.roots.proofs.RoundLaws.{round-mono, round-exact}
 use Rattle.station.specs.declared.Order.{Order}
@@ -21,6 +22,8 @@ use Rattle.station.specs.declared.Order.the-variants.{Third, Fourth}
 use Rattle.adjust.specs.declared.Section.{Section}
 use Rattle.adjust.specs.Line.{Frame, exactTop, accidental, accidentalSum, verdict}
 use Rattle.adjust.proofs.Lists.{Fit, fit-head, fit-tail}
+use Rattle.adjust.specs.declared.terms.Terms.{Terms}
+use Rattle.adjust.specs.Terms.{termsOf}
 use Rattle.rules.specs.Rules.{discrepancyWithin, lengthLimit, closureWithin}
 use Rattle.ledger.proofs.Runs.{root-size, narrow}
 
@@ -29,21 +32,27 @@ use Rattle.ledger.proofs.Runs.{root-size, narrow}
 pub record Narrow (x : Section) : Type 0 where
   pub number : natAbs (x .number) ≤ 9999
   pub height : natAbs (x .height) ≤ 4802400
-  pub discrepancy : discrepancyWithin x ≡ true
+  pub discrepancy : isWithin 625 (x .discrepancy) 18 (x .distance) ≡ true
 
-pub narrow-head : (x : Section) (xs : List Section) → All narrow (x ∷ xs) → Narrow x
-narrow-head x xs e =
+-- D has one limit
+apart : (o : Order) (x : Section) → discrepancyWithin (termsOf o .apart) x ≡ isWithin 625 (x .discrepancy) 18 (x .distance)
+apart Third x = refl
+apart Fourth x = refl
+
+pub narrow-head : (o : Order) (x : Section) (xs : List Section) → All (narrow (termsOf o)) (x ∷ xs) → Narrow x
+narrow-head o x xs e =
     let n = within (x .number) 9999 in
     let q = within (x .height) 4802400 in
-    let h = all-head narrow x xs e in
+    let d = discrepancyWithin (termsOf o .apart) x in
+    let h = all-head (narrow (termsOf o)) x xs e in
     record {
-      number = within-size (x .number) 9999 (and-l n q (and-l (n && q) (discrepancyWithin x) h));
-      height = within-size (x .height) 4802400 (and-r n q (and-l (n && q) (discrepancyWithin x) h));
-      discrepancy = and-r (n && q) (discrepancyWithin x) h;
+      number = within-size (x .number) 9999 (and-l n q (and-l (n && q) d h));
+      height = within-size (x .height) 4802400 (and-r n q (and-l (n && q) d h));
+      discrepancy = sym (apart o x) ∙ and-r (n && q) d h;
     }
 
 -- t, by the test 32
-accidental-small : (x : Section) → pos 1 ≤ℤ x .distance → discrepancyWithin x ≡ true → natAbs (accidental x) ≤ 14400
+accidental-small : (x : Section) → pos 1 ≤ℤ x .distance → isWithin 625 (x .discrepancy) 18 (x .distance) ≡ true → natAbs (accidental x) ≤ 14400
 accidental-small x long e =
     let low : pos 0 ≤ℤ accidental x = rw (round-exact (pos 0) d some) at (round-mono (pos d *ℤ pos 0) n d some above) in
     let high : accidental x ≤ℤ pos 14400 = rw (round-exact (pos 14400) d some) at (round-mono n (pos d *ℤ pos 14400) d some below) in
@@ -76,39 +85,38 @@ accidental-small x long e =
           parts-abs (x .distance),
         )
 
-accidentals-small : (ss : List Section) → Fit ss → All narrow ss → natAbs (sum (map accidental ss)) ≤ 14400 * length ss
-accidentals-small [] f n = omega arith
-accidentals-small (x ∷ xs) f n =
+accidentals-small : (o : Order) (ss : List Section) → Fit ss → All (narrow (termsOf o)) ss → natAbs (sum (map accidental ss)) ≤ 14400 * length ss
+accidentals-small o [] f n = omega arith
+accidentals-small o (x ∷ xs) f n =
     omega (
       arith,
       abs-add (accidental x) (sum (map accidental xs)),
-      accidental-small x (fit-head x xs f .long) (narrow-head x xs n .discrepancy),
-      accidentals-small xs (fit-tail x xs f) (all-tail narrow x xs n),
+      accidental-small x (fit-head x xs f .long) (narrow-head o x xs n .discrepancy),
+      accidentals-small o xs (fit-tail x xs f) (all-tail (narrow (termsOf o)) x xs n),
     )
 
 -- ---- the line
 
-pub sum-small : (order : Order) (ss : List Section) → Fit ss → All narrow ss → natAbs (accidentalSum order ss) ≤ 14400 * length ss
-sum-small Third ss f n = accidentals-small ss f n
+pub sum-small : (o : Order) (ss : List Section) → Fit ss → All (narrow (termsOf o)) ss → natAbs (accidentalSum (termsOf o) ss) ≤ 14400 * length ss
+sum-small Third ss f n = accidentals-small Third ss f n
 sum-small Fourth ss f n = omega arith
 
-pub verdict-small : (order : Order) (n : ℕ) (t : ℤ) → verdict order n t ≤ 2
-verdict-small Third n t = go (ltb n 20) (leZ t (pos (3600 * n)))
+pub verdict-small : (t : Terms) (n : ℕ) (z : ℤ) → verdict t n z ≤ 2
+verdict-small t n z = go (not (t .double) || ltb n 20) (leZ z (t .accidental *ℤ pos n))
   where
     go : (few good : Bool) → cond few 0 (cond good 1 2) ≤ 2
     go true good = omega arith
     go false true = omega arith
     go false false = omega arith
-verdict-small Fourth n t = omega arith
 
-pub length-small : (order : Order) (loop : Bool) → lengthLimit order loop ≤ℤ pos 4000000
+pub length-small : (o : Order) (loop : Bool) → lengthLimit (termsOf o) loop ≤ℤ pos 4000000
 length-small Third true = omega ints
 length-small Third false = omega ints
 length-small Fourth true = omega ints
 length-small Fourth false = omega ints
 
 -- W, by the tests 35 and 36
-pub closure-small : (order : Order) (w l : ℤ) → closureWithin order w l ≡ true → l ≤ℤ pos 4000000 → natAbs w ≤ 20000
+pub closure-small : (o : Order) (w l : ℤ) → closureWithin (termsOf o) w l ≡ true → l ≤ℤ pos 4000000 → natAbs w ≤ 20000
 closure-small Third w l e h = root-size 625 w 72 l 20000 (omega arith) e (omega (ints, parts-times 72 l))
 closure-small Fourth w l e h = root-size 25 w 8 l 20000 (omega arith) e (omega (ints, parts-times 8 l))
 

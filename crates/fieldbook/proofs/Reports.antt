@@ -2,47 +2,48 @@
 use mathlib.Core.Path.{_≡_, refl, sym, ap, subst, _∙_}
 use mathlib.Core.Bool.{Bool, true, false, not, cond}
 use mathlib.Core.List.{List, [], _∷_, _++_, map}
-use Prim.Native.Nat.{ℕ, suc, _+_, _≤_, _<_}
+use Prim.Native.Nat.{ℕ, _+_, _≤_, _<_}
 use native.Mathlib.Omega.{arith}
 use borrow.Author.Tests.{lt-ltb, le-ltb}
 use lib.Dec.{ltb, eqb}
 use lib.ListN.{length, length-map, take}
-use Rattle.numbers.specs.Whole.{anyOf, putAt}
+use Rattle.numbers.specs.Whole.{anyOf, putAt, filled}
 use Rattle.numbers.specs.Tables.{Lowest}
 use Rattle.numbers.proofs.Tests.{by-test, is-true}
 use Rattle.numbers.proofs.Tables.{first-lowest, number-cond, cond-of}
 use Rattle.numbers.proofs.Filled.{filled-length}
 use Rattle.adjust.specs.declared.Point.{Point}
-use Rattle.adjust.specs.declared.Adjusted.{Adjusted}
+use Rattle.adjust.specs.declared.Summary.{Summary}
 use Rattle.adjust.specs.Line.{Closing}
 use Rattle.adjust.specs.Frames.{noPoint}
 use Rattle.columns.specs.Decimals.{same}
 use Rattle.columns.specs.Lines.{heading, title}
-use Rattle.columns.specs.Records.{lineIn}
 use Rattle.columns.specs.Texts.{lines, joined}
 use Rattle.rules.specs.declared.Stage.{Stage}
 use Rattle.rules.specs.declared.Stage.the-variants.{Fresh, Open, Closed}
 use Rattle.rules.specs.Standing.{isClosed}
-use Rattle.book.specs.Calls.{figuresOf}
+use Rattle.book.specs.declared.CloseAnswer.{CloseAnswer}
+use Rattle.book.specs.declared.ClosedFigures.{ClosedFigures}
+use Rattle.book.specs.Calls.{closeNumber, closeFigures, closingIn, figuresOf}
 use Rattle.rules.specs.Rules.{Call}
 use Rattle.adjust.specs.Sections.{holding}
 use Rattle.ledger.specs.Plain as Plain
 use Rattle.ledger.specs.Plain.{Reading, freshReading, after, standing, sectionOf}
 use Rattle.ledger.proofs.Whole.{Kept, fresh-kept, calls-kept}
-use Rattle.ledger.proofs.Again.{bookOf, fresh-holds, figures-again}
+use Rattle.ledger.proofs.Again.{bookOf, fresh-holds, figures-held, figures-again}
 use Rattle.ledger.proofs.Traced.{points-back}
+use Rattle.ledger.proofs.Entries.{reading-calls, refusals-long}
 use Rattle.textbook.specs.declared.reading.State.{State}
 use Rattle.fieldbook.specs.declared.Reduced.{Reduced}
 use Rattle.fieldbook.specs.declared.Reduced.the-variants.{Written, Refused}
-use Rattle.textbook.specs.Text.{lineNext, lineRefusals, readingAfter, refusalsFrom, callsOf}
+use Rattle.textbook.specs.Text.{lineEntry, entries, lineRefusals, readingAfter, refusalsFrom, callsOf}
 use Rattle.fieldbook.specs.Report.{refLine, openLine, closingLines, resultLines, reportOf, withoutHeading, reportLines, report, textTests, textRefusal, bufferAfter, reducedNumber, reducedLength, reducedAs, reducedOf, Reduces, printedFor, printedOf}
 use Rattle.fieldbook.specs.Fits.{closedFits, pointFits}
-use Rattle.textbook.specs.State.{lineCount, stateAfter}
-use Rattle.fieldbook.specs.Printed.{refusalBytes, closingIn, bookLines, stateLines, Printable}
+use Rattle.textbook.specs.code.State.{read, unread, textState}
+use Rattle.fieldbook.specs.code.Printed.{refusalBytes, answerLines, bookLines, stateLines, Printable}
 use Rattle.fieldbook.proofs.Bytes.{text-lines}
-use Rattle.fieldbook.proofs.Calls.{reading-calls}
 use Rattle.fieldbook.proofs.Widths.{figures-fit}
-use Rattle.textbook.proofs.Lines.{read, unread, stateOf, text-state, refusals-filled}
+use Rattle.textbook.proofs.Lines.{refusals-filled}
 
 -- ---- the book of a reading
 
@@ -53,10 +54,9 @@ closed-stage Closed e = refl
 
 module _ (r : Reading) (k : Kept (standing r)) where
   -- the points, read back from their array
-  given-back : r .stage ≡ Closed → closingIn (figuresOf (bookOf r)) ≡ Plain.figuresOf r
-  given-back e =
-      ap closingIn (figures-again r k e)
-      ∙ (λ i. record { summary = Plain.figuresOf r .summary; points = points-back (r .start .height) (r .end) (r .start .number) (standing r .sections) (k .few) i })
+  given-back : closingIn (Plain.figuresOf r .summary) (filled noPoint 65 (Plain.figuresOf r .points)) ≡ Plain.figuresOf r
+  given-back =
+      λ i. record { summary = Plain.figuresOf r .summary; points = points-back (r .opening .start .height) (r .end) (r .opening .start .number) (standing r .sections) (k .few) i }
 
   sections-many : bookOf r .sections .count ≡ length (r .sections)
   unfolding holding
@@ -64,22 +64,40 @@ module _ (r : Reading) (k : Kept (standing r)) where
 
   book-lines : bookLines (bookOf r) ≡ resultLines r
   book-lines =
-      by-test (isClosed (r .stage))
-      (λ t. cond t (closingLines (closingIn (figuresOf (bookOf r)))) (openLine (bookOf r .sections .count) ∷ [])
+      ap (λ (f : ClosedFigures). answerLines (bookOf r) (f .points) (f .answer)) (figures-held r k)
+      ∙ by-test (isClosed (r .stage))
+      (λ t. let f : ClosedFigures = closeFigures (cond (not t) 21 0) (Plain.figuresOf r) in answerLines (bookOf r) (f .points) (f .answer)
       ≡ cond t (closingLines (Plain.figuresOf r)) (openLine (length (r .sections)) ∷ []))
-      (λ t. ap closingLines (given-back (closed-stage (r .stage) (is-true t)))) (λ t. ap (λ (n : ℕ). openLine n ∷ []) sections-many)
+      (λ t. ap closingLines given-back) (λ t. ap (λ (n : ℕ). openLine n ∷ []) sections-many)
+
+  -- figures that are told are those of a closed line
+  told : (s : Summary) → figuresOf (bookOf r) .answer ≡ CloseAnswer.Closed s → (r .stage ≡ Closed) × (Plain.figuresOf r .summary ≡ s)
+  told s e = go (isClosed (r .stage)) refl
+    where
+      held : CloseAnswer → Summary
+      held (CloseAnswer.Closed x) = x
+      held (CloseAnswer.NotClosed n) = s
+
+      answer : {t : Bool} → isClosed (r .stage) ≡ t → closeFigures (cond (not t) 21 0) (Plain.figuresOf r) .answer ≡ CloseAnswer.Closed s
+      answer h = sym (ap (λ (f : ClosedFigures). f .answer) (figures-held r k) ∙ (λ i. closeFigures (cond (not (h i)) 21 0) (Plain.figuresOf r) .answer)) ∙ e
+
+      go : (t : Bool) → isClosed (r .stage) ≡ t → (r .stage ≡ Closed) × (Plain.figuresOf r .summary ≡ s)
+      go true h = (closed-stage (r .stage) h, ap held (answer h))
+      go false h = let z : _≡_ {A = ℕ} 21 0 = ap closeNumber (answer h) in absurd (omega arith)
 
 -- of the book that a list of calls leaves
 calls-printable : (calls : List Call) → Printable (bookOf (after freshReading calls))
 calls-printable calls =
     record {
       few = omega (arith, sections-many r k, sections-kept);
-      closing = λ t. let e = closed-stage (r .stage) t in
+      closing = λ s e. let t = told r k s e in
+          let points = ap (λ (f : ClosedFigures). f .points) (figures-again r k (t .0)) in
           record {
-            few = subst (λ (x : Adjusted). x .summary .count ≤ 64) (sym (figures-again r k e)) (k .few);
-            places = ap (λ (x : Adjusted). length (x .points)) (figures-again r k e) ∙ filled-length noPoint 65 (Plain.figuresOf r .points);
-            summary = ap (λ (x : Adjusted). closedFits (x .summary)) (figures-again r k e) ∙ figures-fit calls e .0;
-            points = ap (λ (c : Closing). anyOf (λ (p : Point). not (pointFits p)) (c .points)) (given-back r k e) ∙ figures-fit calls e .1;
+            few = subst (λ (x : Summary). x .count ≤ 64) (t .1) (k .few);
+            places = ap length points ∙ filled-length noPoint 65 (Plain.figuresOf r .points);
+            summary = ap closedFits (sym (t .1)) ∙ figures-fit calls (t .0) .0;
+            points =
+                ap (λ (c : Closing). anyOf (λ (p : Point). not (pointFits p)) (c .points)) ((λ i. closingIn (sym (t .1) i) (points i)) ∙ given-back r k) ∙ figures-fit calls (t .0) .1;
           };
     }
   where
@@ -95,15 +113,14 @@ calls-printable calls =
 -- ---- a text
 
 pub numbers-long : (r : Reading) (ls : List (List ℕ)) → length (lineRefusals r ls) ≡ length ls
-numbers-long r [] = refl
-numbers-long r (l ∷ ls) = ap suc (numbers-long (lineNext r (lineIn l)) ls)
+numbers-long r ls = refusals-long r (entries ls) ∙ length-map ls lineEntry
 
 module _ (ls : List (List ℕ)) where
   abbrev last : Reading
   last = readingAfter freshReading ls
 
   last-kept : Kept (standing last)
-  last-kept = subst (λ (r : Reading). Kept (standing r)) (sym (reading-calls freshReading ls)) (calls-kept (callsOf ls))
+  last-kept = subst (λ (r : Reading). Kept (standing r)) (sym (reading-calls freshReading (entries ls))) (calls-kept (callsOf ls))
 
   read-lines : length ls ≤ 776 → stateLines (read last (lineRefusals freshReading ls)) ≡ reportOf (refusalsFrom 2 (lineRefusals freshReading ls)) last
   unfolding stateLines refusalsFrom
@@ -111,7 +128,7 @@ module _ (ls : List (List ℕ)) where
       λ i. title ∷ (map refLine (refusals-filled 2 776 (lineRefusals freshReading ls) (omega (arith, numbers-long freshReading ls)) i) ++ book-lines last last-kept i)
 
   read-printable : Printable (bookOf last)
-  read-printable = subst (λ (r : Reading). Printable (bookOf r)) (sym (reading-calls freshReading ls)) (calls-printable (callsOf ls))
+  read-printable = subst (λ (r : Reading). Printable (bookOf r)) (sym (reading-calls freshReading (entries ls))) (calls-printable (callsOf ls))
 
 fresh-printable : Printable (unread .book)
 fresh-printable = subst Printable (sym fresh-holds) (calls-printable [])
@@ -122,14 +139,14 @@ unread-lines =
     (λ i. title ∷ (map refLine (record { line = 1; number = 1 } ∷ refusals-filled 2 776 [] (omega arith) i) ++ bookLines (fresh-holds i)))
     ∙ ap (λ (ls : List (List ℕ)). title ∷ (refLine (record { line = 1; number = 1 }) ∷ ls)) (book-lines freshReading fresh-kept)
 
-state-lines : (ls : List (List ℕ)) → length ls ≤ 777 → stateLines (stateOf ls) ≡ reportLines ls
+state-lines : (ls : List (List ℕ)) → length ls ≤ 777 → stateLines (textState ls) ≡ reportLines ls
 state-lines [] h = unread-lines
 state-lines (l ∷ ls) h =
     by-test (same l heading)
     (λ b. stateLines (cond b (read (last ls) (lineRefusals freshReading ls)) unread) ≡ cond b (reportOf (refusalsFrom 2 (lineRefusals freshReading ls)) (last ls)) withoutHeading)
     (λ b. read-lines ls (omega arith)) (λ b. unread-lines)
 
-state-printable : (ls : List (List ℕ)) → Printable (stateOf ls .book)
+pub state-printable : (ls : List (List ℕ)) → Printable (textState ls .book)
 state-printable [] = fresh-printable
 state-printable (l ∷ ls) =
     by-test (same l heading) (λ b. Printable (cond b (read (last ls) (lineRefusals freshReading ls)) unread .book)) (λ b. read-printable ls) (λ b. fresh-printable)
@@ -140,12 +157,9 @@ module _ (t : List ℕ) (h : length t ≤ 65268) where
   few-lines = omega (arith, text-lines (length t) t)
 
   -- what is read of a text is its report
-  pub report-read : joined (stateLines (stateAfter t (lineCount (length t)))) ≡ report t
+  pub report-read : joined (stateLines (textState (lines t))) ≡ report t
   unfolding report
-  report-read = ap (λ (s : State). joined (stateLines s)) (text-state t few-lines) ∙ ap joined (state-lines (lines t) few-lines)
-
-  pub read-fits : Printable (stateAfter t (lineCount (length t)) .book)
-  read-fits = subst (λ (s : State). Printable (s .book)) (sym (text-state t few-lines)) (state-printable (lines t))
+  report-read = ap joined (state-lines (lines t) few-lines)
 
 -- ---- the call
 

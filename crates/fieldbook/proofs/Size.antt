@@ -12,18 +12,15 @@ use Rattle.numbers.proofs.Tests.{by-test, no-true, not-false}
 use Rattle.station.specs.declared.Order.{Order}
 use Rattle.station.specs.declared.Order.the-variants.{Third, Fourth}
 use Rattle.station.specs.Station.{stationOf}
-use Rattle.columns.specs.declared.reader.Kind.{Kind}
-use Rattle.columns.specs.declared.reader.Kind.the-variants.{Record, Refused}
-use Rattle.columns.specs.declared.reader.Line.{Line}
-use Rattle.columns.specs.Records.{lineIn}
 use Rattle.rules.specs.declared.Stage.{Stage}
 use Rattle.rules.specs.declared.Stage.the-variants.{Fresh, Open, Closed}
 use Rattle.rules.specs.Standing.{isOpen}
 use Rattle.rules.specs.Rules.{Call, open-line, station, end-run, drop-run, drop-section, close-line}
 use Rattle.ledger.specs.Plain.{Reading, Awaited, refusal, taken, runEnded, standing}
+use Rattle.ledger.specs.Entries.{Entry, asks, refused, entryRefusal, entryNext}
 use Rattle.rules.proofs.Tables.{fails}
 use Rattle.ledger.proofs.Follows.{recast}
-use Rattle.textbook.specs.Text.{Refusal, callOf, lineRefusal, lineNext, lineRefusals, refusalsFrom, readingAfter}
+use Rattle.textbook.specs.Text.{Refusal, lineEntry, lineRefusals, refusalsFrom, readingAfter}
 
 -- ---- so many lines at least a reading has taken
 
@@ -60,7 +57,7 @@ taken-least : (r : Reading) (c : Call) → refusal r c ≡ 0 → least (taken r 
 taken-least r (open-line order instrument number height) e = omega arith
 taken-least r (station kb kf readings) e = omega (arith, length-append (r .present) (stationOf kb kf readings ∷ []))
 taken-least r (end-run number) e =
-    ended r (r .order) (r .waiting) number (two-at-least (length (r .present)) (fails (standing r) (end-run number) e 29))
+    ended r (r .opening .order) (r .waiting) number (two-at-least (length (r .present)) (fails (standing r) (end-run number) e 29))
 taken-least r drop-run e = omega arith
 taken-least r drop-section e = omega arith
 taken-least r (close-line number end) e =
@@ -73,25 +70,16 @@ taken-least r (close-line number end) e =
 abbrev refusalOf : ℕ → ℕ → List Refusal
 refusalOf k n = cond (eqb n 0) [] (record { line = k; number = n } ∷ [])
 
-line-counts : (k : ℕ) (r : Reading) (l : Line) → length (refusalOf k (lineRefusal r l)) + least (lineNext r l) ≤ 1 + least r
-line-counts k r l = go (l .kind)
-  where
-    with-kind : Kind → Line
-    with-kind kind = record { kind = kind; values = l .values }
-
-    some-refusal : ℕ → List Refusal
-    some-refusal n = record { line = k; number = n } ∷ []
-
-    go : (kind : Kind) → length (refusalOf k (lineRefusal r (with-kind kind))) + least (lineNext r (with-kind kind)) ≤ 1 + least r
-    go (Record t) =
-        let c : Call = callOf t (l .values) in
-        by-test (eqb (refusal r c) 0) (λ b. length (cond b [] (some-refusal (refusal r c))) + least (cond b (taken r c) r) ≤ 1 + least r)
-        (λ b. omega (arith, taken-least r c (eqb→eq (refusal r c) 0 b))) (λ b. omega arith)
-    go (Refused n) = by-test (eqb n 0) (λ b. length (cond b [] (some-refusal n)) + least r ≤ 1 + least r) (λ b. omega arith) (λ b. omega arith)
+entry-counts : (k : ℕ) (r : Reading) (e : Entry) → length (refusalOf k (entryRefusal r e)) + least (entryNext r e) ≤ 1 + least r
+entry-counts k r (asks c) =
+    by-test (eqb (refusal r c) 0) (λ b. length {A = Refusal} (cond b [] (record { line = k; number = refusal r c } ∷ [])) + least (cond b (taken r c) r) ≤ 1 + least r)
+    (λ b. omega (arith, taken-least r c (eqb→eq (refusal r c) 0 b))) (λ b. omega arith)
+entry-counts k r (refused n) = by-test (eqb n 0) (λ b. length {A = Refusal} (cond b [] (record { line = k; number = n } ∷ [])) + least r ≤ 1 + least r) (λ b. omega arith) (λ b. omega arith)
 
 pub lines-count : (k : ℕ) (r : Reading) (ls : List (List ℕ)) → length (refusalsFrom k (lineRefusals r ls)) + least (readingAfter r ls) ≤ length ls + least r
 unfolding refusalsFrom
 lines-count k r [] = omega arith
 lines-count k r (l ∷ ls) =
-    let s : Reading = lineNext r (lineIn l) in
-    omega (arith, line-counts k r (lineIn l), lines-count (suc k) s ls, length-append (refusalOf k (lineRefusal r (lineIn l))) (refusalsFrom (suc k) (lineRefusals s ls)))
+    let e : Entry = lineEntry l in
+    let s : Reading = entryNext r e in
+    omega (arith, entry-counts k r e, lines-count (suc k) s ls, length-append (refusalOf k (entryRefusal r e)) (refusalsFrom (suc k) (lineRefusals s ls)))

@@ -13,9 +13,9 @@ use Rattle.numbers.proofs.Tests.{by-test, is-true}
 use Rattle.numbers.proofs.All.{All, all-head, all-tail, all-cons, all-append}
 use Rattle.ledger.proofs.Whole.{calls-kept}
 use Rattle.adjust.specs.declared.Point.{Point}
-use Rattle.columns.specs.declared.reader.Tag.{Tag}
-use Rattle.columns.specs.declared.reader.Kind.{Kind}
-use Rattle.columns.specs.declared.reader.Kind.the-variants.{Record, Refused}
+use Rattle.records.specs.declared.Tag.{Tag}
+use Rattle.records.specs.declared.Kind.{Kind}
+use Rattle.records.specs.declared.Kind.the-variants.{Record, Refused}
 use Rattle.columns.specs.declared.reader.Line.{Line}
 use Rattle.columns.specs.Decimals.{same}
 use Rattle.columns.specs.Lines.{lineEnd, heading, title}
@@ -25,11 +25,13 @@ use Rattle.columns.proofs.Lines.{length-line, length-title}
 use Rattle.rules.specs.Standing.{isClosed}
 use Rattle.rules.specs.Rules.{Call}
 use Rattle.rules.proofs.Tables.{tests, tables}
+use Rattle.rules.specs.Records.{callOf}
+use Rattle.ledger.specs.Entries.{entryOf, entryRefusal, entryNext}
 use Rattle.ledger.specs.Plain.{Reading, freshReading, after, refusal, standing, sectionOf, figuresOf}
-use Rattle.textbook.specs.Text.{Refusal, callOf, lineRefusal, lineNext, lineRefusals, readingAfter, callsOf, refusalsFrom}
+use Rattle.textbook.specs.Text.{Refusal, lineEntry, entries, lineRefusals, readingAfter, callsOf, refusalsFrom}
 use Rattle.fieldbook.specs.Report.{refLine, closedNumbers, closedLine, pointLine, openLine, closingLines, resultLines, reportOf, withoutHeading, reportLines}
 use Rattle.fieldbook.specs.Fits.{pointFits, ReportWhole}
-use Rattle.fieldbook.proofs.Calls.{reading-calls}
+use Rattle.ledger.proofs.Entries.{reading-calls}
 use Rattle.fieldbook.proofs.Widths.{figures-fit}
 use Rattle.fieldbook.proofs.Written.{refusal-fits, open-long, point-long}
 use Rattle.fieldbook.proofs.Reports.{closed-stage, few-lines}
@@ -63,10 +65,10 @@ line-small l = go (tagAmong tags (take 3 l)) (no-tag tags (take 3 l))
         (λ b. numbers-small t (fieldCount t) (drop 3 l)) (λ b. omega arith)
     go (Refused n) h = h
 
-refusal-small : (r : Reading) (l : List ℕ) → lineRefusal r (lineIn l) ≤ 99
+refusal-small : (r : Reading) (l : List ℕ) → entryRefusal r (lineEntry l) ≤ 99
 refusal-small r l = go (lineIn l .kind) (line-small l)
   where
-    go : (k : Kind) → SmallKind k → lineRefusal r (record { kind = k; values = lineIn l .values }) ≤ 99
+    go : (k : Kind) → SmallKind k → entryRefusal r (entryOf k (lineIn l .values)) ≤ 99
     go (Record t) h = let c : Call = callOf t (lineIn l .values) in leb-true (refusal r c) 99 (first-each (λ n. leb n 99) (tests (standing r) c) (tables (standing r) c .two-digits) refl)
     go (Refused n) h = h
 
@@ -91,8 +93,8 @@ refusals-whole : (k : ℕ) (r : Reading) (ls : List (List ℕ)) → k + length l
 unfolding refusalsFrom
 refusals-whole k r [] h = refl
 refusals-whole k r (l ∷ ls) h =
-    let n = lineRefusal r (lineIn l) in
-    let s = lineNext r (lineIn l) in
+    let n = entryRefusal r (lineEntry l) in
+    let s = entryNext r (lineEntry l) in
     let here : List Refusal = cond (eqb n 0) [] (record { line = k; number = n } ∷ []) in
     let later = refusalsFrom (suc k) (lineRefusals s ls) in
     subst AllWhole (sym (map-append refLine here later))
@@ -135,7 +137,7 @@ lines-whole (l ∷ ls) h =
     let r : Reading = readingAfter freshReading ls in
     by-test (same l heading) (λ b. AllWhole (cond b (reportOf refusals r) withoutHeading))
     (λ b. report-of refusals r (refusals-whole 2 freshReading ls (omega arith))
-    (subst (λ (x : Reading). AllWhole (resultLines x)) (sym (reading-calls freshReading ls)) (result-whole (callsOf ls))))
+    (subst (λ (x : Reading). AllWhole (resultLines x)) (sym (reading-calls freshReading (entries ls))) (result-whole (callsOf ls))))
     (λ b. without)
 
 pub report-whole : ReportWhole

@@ -8,7 +8,7 @@ use native.Mathlib.Omega.{arith}
 use lib.ListN.{length}
 use lib.IntN.{ℤ, pos, natAbs, _+ℤ_, _*ℤ_}
 use lib.Signed.{_≤ℤ_, leZ}
-use Rattle.numbers.proofs.Tests.{not-false}
+use Rattle.numbers.proofs.Tests.{no-true, not-false}
 use Rattle.numbers.proofs.All.{All, all-cons, all-tail}
 use Rattle.numbers.proofs.Parts.{ints, parts-add, parts-abs, test-le}
 use Rattle.numbers.proofs.Sizes.{abs-add, abs-mul}
@@ -26,7 +26,9 @@ use Rattle.columns.specs.Lines.{widthOf, allFit, columnsOf, lineFits, isWide}
 use Rattle.columns.proofs.Fields.{fits-within}
 use Rattle.columns.proofs.Lines.{columns-range, fits-room, height-fits}
 use Rattle.rules.specs.Standing.{Standing, isShut}
-use Rattle.rules.specs.Rules.{close-line, lengthLimit, closureWithin, refusal, taken}
+use Rattle.adjust.specs.Terms.{termsOf}
+use Rattle.rules.specs.Rules.{Call, open-line, station, end-run, drop-run, drop-section, close-line, isClosing, lengthLimit, closureWithin, refusal, taken}
+use Rattle.ledger.specs.Plain as Plain
 use Rattle.ledger.specs.Plain.{Reading, freshReading, after, figuresOf, standing}
 use Rattle.rules.proofs.Tables.{fails}
 use Rattle.ledger.proofs.Runs.{narrow}
@@ -69,18 +71,18 @@ point-fits p n d c h =
 
 -- ---- the points of a line
 
-module _ (start closed total : ℤ) (begins : natAbs start ≤ 8999999) (closes : natAbs closed ≤ 20000) (some : pos 1 ≤ℤ total) (short : total ≤ℤ pos 4000000) where
+module _ (o : Order) (start closed total : ℤ) (begins : natAbs start ≤ 8999999) (closes : natAbs closed ≤ 20000) (some : pos 1 ≤ℤ total) (short : total ≤ℤ pos 4000000) where
   abbrev f : Frame
   f = millimetres start closed total
 
   -- after running sums q and s, with the sums of the sections that follow still within those of a line
-  points-fit : (q s h : ℤ) (xs : List Section) → Fit xs → All narrow xs
+  points-fit : (q s h : ℤ) (xs : List Section) → Fit xs → All (narrow (termsOf o)) xs
       → natAbs q + 4802400 * length xs ≤ 307353600 → pos 0 ≤ℤ s → (s +ℤ lineLength xs) ≤ℤ total
       → Near f q s xs (pointsAfter f q s h xs) → All pointFits (pointsAfter f q s h xs)
   points-fit q s h [] fit n hq hs ht near = refl
   points-fit q s h (x ∷ xs) fit n hq hs ht (next-section height correction near) =
       let leg = fit-head x xs fit in
-      let here = narrow-head x xs n in
+      let here = narrow-head o x xs n in
       let q₂ : ℤ = q +ℤ x .height in
       let s₂ : ℤ = s +ℤ x .distance in
       let g : ℤ = printedHeight f q₂ s₂ in
@@ -95,16 +97,16 @@ module _ (start closed total : ℤ) (begins : natAbs start ≤ 8999999) (closes 
       (point-fits (pointAfter f q s h x) (omega (arith, here .number)) (omega (ints, in-line, short, some, parts-abs total))
       (omega (arith, correction-small start closed total begins closes some (pointAfter f q s h x .correction) (x .distance) (le-trans part in-line) correction))
       (omega (arith, height-small start closed total begins closes some q₂ s₂ g (omega (arith, sum)) in-line height)))
-      (points-fit q₂ s₂ g xs (fit-tail x xs fit) (all-tail narrow x xs n) sum forward on near)
+      (points-fit q₂ s₂ g xs (fit-tail x xs fit) (all-tail (narrow (termsOf o)) x xs n) sum forward on near)
 
 -- ---- a closing that is taken
 
 module _ (v : Standing) (number end : ℤ) (e : refusal v (close-line number end) ≡ 0) (i : Kept (taken v (close-line number end))) where
   abbrev order : Order
-  order = v .line .order
+  order = v .line .opening .order
 
   abbrev start : ℤ
-  start = v .line .start .height
+  start = v .line .opening .start .height
 
   abbrev ss : List Section
   ss = v .sections
@@ -116,7 +118,7 @@ module _ (v : Standing) (number end : ℤ) (e : refusal v (close-line number end
   w = closure start end ss
 
   abbrev gave : Closing
-  gave = closing order (v .line .start) end ss
+  gave = closing (v .line .opening) end ss
 
   fit : Fit ss
   fit = fitted-legs ss (i .fit)
@@ -126,11 +128,11 @@ module _ (v : Standing) (number end : ℤ) (e : refusal v (close-line number end
 
   short : l ≤ℤ pos 4000000
   short =
-      let limit : l ≤ℤ lengthLimit order (isShut v) = test-le (not-false (leZ l (lengthLimit order (isShut v))) (fails v (close-line number end) e 35)) in
+      let limit : l ≤ℤ lengthLimit (termsOf order) (isShut v) = test-le (not-false (leZ l (lengthLimit (termsOf order) (isShut v))) (fails v (close-line number end) e 35)) in
       omega (ints, length-small order (isShut v))
 
   small : natAbs w ≤ 20000
-  small = closure-small order w l (not-false (closureWithin order w l) (fails v (close-line number end) e 36)) short
+  small = closure-small order w l (not-false (closureWithin (termsOf order) w l) (fails v (close-line number end) e 36)) short
 
   begins : natAbs start ≤ 8999999
   begins = in-range start (i .start)
@@ -138,19 +140,28 @@ module _ (v : Standing) (number end : ℤ) (e : refusal v (close-line number end
   summary-fits : closedFits (gave .summary) ≡ true
   summary-fits =
       closed-fits (gave .summary) (omega (arith, small, abs-mul (pos 1) w)) (omega (ints, short, some, parts-abs l)) (i .few)
-      (omega (arith, sum-small order ss fit (i .narrow-sections), i .few)) (verdict-small order (length ss) (accidentalSum order ss))
+      (omega (arith, sum-small order ss fit (i .narrow-sections), i .few)) (verdict-small (termsOf order) (length ss) (accidentalSum (termsOf order) ss))
 
   all-fit : All pointFits (gave .points)
   all-fit =
       all-cons pointFits _ (sectionPoints (frameOf start end ss) ss)
       (point-fits _ (omega (arith, i .number)) (omega arith) (omega arith) (omega (arith, begins, abs-mul (pos 1) start)))
-      (points-fit start w l begins small some short (pos 0) (pos 0) (pos 1 *ℤ start) ss fit (i .narrow-sections) (omega (arith, i .few)) (omega ints)
+      (points-fit order start w l begins small some short (pos 0) (pos 0) (pos 1 *ℤ start) ss fit (i .narrow-sections) (omega (arith, i .few)) (omega ints)
       (omega (ints, parts-add (pos 0) l)) (line-sound start end ss some .near))
+
+-- a closing is on a number and a height
+fits-closed : (r : Reading) (c : Call) → isClosing c ≡ true → Plain.refusal r c ≡ 0 → Kept (standing (Plain.taken r c))
+    → (closedFits (figuresOf (Plain.taken r c) .summary) ≡ true) × All pointFits (figuresOf (Plain.taken r c) .points)
+fits-closed r (open-line o i m h) s e k = no-true s
+fits-closed r (station kb kf m) s e k = no-true s
+fits-closed r (end-run m) s e k = no-true s
+fits-closed r drop-run s e k = no-true s
+fits-closed r drop-section s e k = no-true s
+fits-closed r (close-line m h) s e k = (summary-fits (standing r) m h e k, all-fit (standing r) m h e k)
 
 pub figures-fit : FiguresFit
 figures-fit calls e =
     let c = every-list calls e in
-    let r : Reading = after freshReading (c .before) in
-    let kept : Kept (taken (standing r) (close-line (c .number) (c .end))) = subst (λ (s : Reading). Kept (standing s)) (c .stays) (calls-kept calls) in
+    let kept : Kept (standing (Plain.taken (after freshReading (c .before)) (c .call))) = subst (λ (s : Reading). Kept (standing s)) (c .stays) (calls-kept calls) in
     subst (λ (s : Reading). (closedFits (figuresOf s .summary) ≡ true) × All pointFits (figuresOf s .points)) (sym (c .stays))
-    (summary-fits (standing r) (c .number) (c .end) (c .accepted) kept, all-fit (standing r) (c .number) (c .end) (c .accepted) kept)
+    (fits-closed (after freshReading (c .before)) (c .call) (c .closes) (c .accepted) kept)

@@ -15,7 +15,7 @@ use Rattle.numbers.proofs.Tests.{by-test}
 use Rattle.numbers.proofs.All.{all-head, all-tail}
 use Rattle.numbers.proofs.Arrays.{length-putAt, put-after, put-all, drop-next}
 use Rattle.adjust.specs.declared.Point.{Point}
-use Rattle.adjust.specs.declared.Adjusted.{Adjusted}
+use Rattle.adjust.specs.declared.Summary.{Summary}
 use Rattle.adjust.specs.Frames.{noPoint}
 use Rattle.columns.specs.Buffers.{placed}
 use Rattle.columns.specs.Lines.{widthOf, allFit, columnsOf, lineFits, tagLine, isWide, title}
@@ -25,12 +25,14 @@ use Rattle.columns.proofs.Lines.{length-line, length-title}
 use Rattle.columns.proofs.Texts.{joined-append}
 use Rattle.rules.specs.declared.Book.{Book}
 use Rattle.rules.specs.Standing.{isClosed}
-use Rattle.book.specs.Calls.{figuresOf}
+use Rattle.book.specs.declared.CloseAnswer.{CloseAnswer}
+use Rattle.book.specs.declared.CloseAnswer.the-variants.{Closed, NotClosed}
+use Rattle.book.specs.Calls.{closingIn, figuresOf}
 use Rattle.textbook.specs.declared.reading.State.{State}
 use Rattle.textbook.specs.Text.{Refusal, refusalsFrom}
 use Rattle.fieldbook.specs.Report.{refLine, closedNumbers, closedLine, pointNumbers, pointLine, openLine, closingLines}
 use Rattle.fieldbook.specs.Fits.{pointFits}
-use Rattle.fieldbook.specs.Printed.{refusalBytes, refusalLines, closingIn, bookLines, stateLines, pointsFit, ClosingFits}
+use Rattle.fieldbook.specs.code.Printed.{refusalBytes, refusalLines, answerLines, bookLines, stateLines, pointsFit, ClosingFits}
 use Rattle.fieldbook.proofs.Bytes.{tag-short}
 use Rattle.fieldbook.proofs.Widths.{small-fits}
 
@@ -153,39 +155,37 @@ points-long (p ∷ ps) f =
 
 -- ---- what closing the line gave
 
-module _ (x : Adjusted) (f : ClosingFits x) where
+module _ (s : Summary) (ps : List Point) (f : ClosingFits s ps) where
   abbrev given : List Point
-  given = closingIn x .points
+  given = closingIn s ps .points
 
-  closed-long : length (closedLine (x .summary)) ≡ 84
-  closed-long = length-line (67 ∷ 76 ∷ 79 ∷ []) (closedNumbers (x .summary)) false (f .summary)
+  closed-long : length (closedLine s) ≡ 84
+  closed-long = length-line (67 ∷ 76 ∷ 79 ∷ []) (closedNumbers s) false (f .summary)
 
-  pub closing-long : length (joined (closingLines (closingIn x))) ≡ 84 + 84 * (x .summary .count + 1)
+  pub closing-long : length (joined (closingLines (closingIn s ps))) ≡ 84 + 84 * (s .count + 1)
   unfolding joined
   closing-long =
-      omega (arith, f .few, f .places, closed-long, length-append (closedLine (x .summary)) (joined (map pointLine given)), points-long given (f .points), length-take (x .summary .count + 1) (x .points))
+      omega (arith, f .few, f .places, closed-long, length-append (closedLine s) (joined (map pointLine given)), points-long given (f .points), length-take (s .count + 1) ps)
 
   pub closing-put : (d : List ℕ) (at : ℕ) → at ≤ length d
-      → putAt (putAt d at (closedLine (x .summary))) (at + 84) (joined (map pointLine given)) ≡ putAt d at (joined (closingLines (closingIn x)))
+      → putAt (putAt d at (closedLine s)) (at + 84) (joined (map pointLine given)) ≡ putAt d at (joined (closingLines (closingIn s ps)))
   unfolding joined
   closing-put d at h =
-      ap (λ (k : ℕ). putAt (putAt d at (closedLine (x .summary))) (at + k) (joined (map pointLine given))) (sym closed-long)
-      ∙ put-after d at (closedLine (x .summary)) (joined (map pointLine given)) h
+      ap (λ (k : ℕ). putAt (putAt d at (closedLine s)) (at + k) (joined (map pointLine given))) (sym closed-long)
+      ∙ put-after d at (closedLine s) (joined (map pointLine given)) h
 
-  pub closed-put-long : (d : List ℕ) (at : ℕ) → at + 84 ≤ length d → length (putAt d at (closedLine (x .summary))) ≡ length d
-  closed-put-long d at h = length-putAt d at (closedLine (x .summary)) (omega (arith, closed-long))
+  pub closed-put-long : (d : List ℕ) (at : ℕ) → at + 84 ≤ length d → length (putAt d at (closedLine s)) ≡ length d
+  closed-put-long d at h = length-putAt d at (closedLine s) (omega (arith, closed-long))
 
 -- ---- where the line stands
 
 module _ (b : Book) where
-  pub book-closed : isClosed (b .line .stage) ≡ true → bookLines b ≡ closingLines (closingIn (figuresOf b))
-  book-closed e = ap (λ (t : Bool). cond t (closingLines (closingIn (figuresOf b))) (openLine (b .sections .count) ∷ [])) e
+  pub book-closed : (s : Summary) → figuresOf b .answer ≡ Closed s → bookLines b ≡ closingLines (closingIn s (figuresOf b .points))
+  book-closed s e = ap (answerLines b (figuresOf b .points)) e
 
-  pub book-open : isClosed (b .line .stage) ≡ false → joined (bookLines b) ≡ openLine (b .sections .count)
+  pub book-open : (n : ℕ) → figuresOf b .answer ≡ NotClosed n → joined (bookLines b) ≡ openLine (b .sections .count)
   unfolding joined
-  book-open e =
-      ap (λ (t : Bool). joined (cond t (closingLines (closingIn (figuresOf b))) (openLine (b .sections .count) ∷ []))) e
-      ∙ append-nil (openLine (b .sections .count))
+  book-open n e = ap (λ (a : CloseAnswer). joined (answerLines b (figuresOf b .points) a)) e ∙ append-nil (openLine (b .sections .count))
 
 pub open-long : (n : ℕ) → n ≤ 64 → length (openLine n) ≡ 84
 open-long n h = length-line (79 ∷ 80 ∷ 78 ∷ []) (pos n ∷ []) false (open-fits n h)

@@ -5,15 +5,14 @@ use Prim.Native.Nat.{ℕ}
 use Rattle.adjust.specs.Line.{Closing}
 use Rattle.rules.specs.declared.Stage.the-variants.{Closed}
 use Rattle.rules.specs.declared.Book.{Book}
-use Rattle.rules.specs.Rules.{Call}
-use Rattle.ledger.specs.Plain.{Reading, freshReading, closings}
+use Rattle.ledger.specs.Plain.{freshReading, closings}
+use Rattle.ledger.specs.Entries.{callNumbers}
 use Rattle.ledger.specs.Claims.{ClosedOnce}
 use Rattle.ledger.specs.Trace.{FreshEnsures, Trace}
 use Rattle.numbers.specs.Whole.{putAt}
 use Rattle.columns.specs.Lines.{heading, title}
-use Rattle.columns.specs.Records.{lineIn}
 use Rattle.columns.specs.Texts.{lines, joined}
-use Rattle.textbook.specs.Text.{callsIn, lineRefusal, lineNext, lineRefusals, readingAfter, callsOf, refusalsFrom}
+use Rattle.textbook.specs.Text.{entries, lineRefusals, readingAfter, callsOf, refusalsFrom}
 use Rattle.fieldbook.specs.Report.{refLine, closingLines, openLine, resultLines, textRefusal, bufferAfter}
 
 -- the lines' calls closed the line once and soundly, and that closing is what is printed
@@ -30,16 +29,11 @@ abbrev pub madeLines : List Closing → Book → List (List ℕ)
 madeLines [] e = openLine (e .sections .count) ∷ []
 madeLines (g ∷ gs) e = closingLines g
 
--- the refusal numbers of the lines that are calls, without those of lines that are none
-abbrev pub callNumbers : Reading → List (List ℕ) → List ℕ
-callNumbers r [] = []
-callNumbers r (l ∷ ls) = map (λ (c : Call). lineRefusal r (lineIn l)) (callsIn (lineIn l)) ++ callNumbers (lineNext r (lineIn l)) ls
-
--- whoever makes the lines' calls of a fresh book one by one gets the numbers that the report has for them, and what it prints below
+-- whoever makes the lines' calls of a fresh book one by one gets the numbers that the report has for the lines that are calls, and what it prints below
 abbrev pub TextAsMade : Type 0
 TextAsMade =
     (ls : List (List ℕ)) (b e : Book) (ns : List ℕ) (gs : List Closing) → FreshEnsures b → Trace b (callsOf ls) ns gs e
-    → (callNumbers freshReading ls ≡ ns) × (resultLines (readingAfter freshReading ls) ≡ madeLines gs e)
+    → (callNumbers freshReading (entries ls) ≡ ns) × (resultLines (readingAfter freshReading ls) ≡ madeLines gs e)
 
 -- ---- the bytes of the buffer
 

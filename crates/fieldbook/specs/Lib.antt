@@ -1,5 +1,5 @@
 pub mod Report
 pub mod Fits
-pub mod Printed
 pub mod Worked
 pub mod Claims
+pub mod code

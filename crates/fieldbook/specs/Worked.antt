@@ -7,15 +7,14 @@ use Prim.Native.Char.{code}
 use Prim.Native.String.{String, [], _∷_, _++_}
 use lib.IntN.{ℤ, pos, negsuc}
 use Rattle.numbers.specs.Whole.{putAt}
-use Rattle.columns.specs.declared.reader.Tag.{Tag}
-use Rattle.columns.specs.declared.reader.Tag.the-variants.{Lin, Sta, Run, End}
+use Rattle.records.specs.declared.Tag.{Tag}
+use Rattle.records.specs.declared.Tag.the-variants.{Lin, Sta, Run, End}
 use Rattle.roots.specs.Round.{roundEven}
 use Rattle.roots.specs.Limit.{isWithin}
 use Rattle.columns.specs.Decimals.{blanks, digitsBy, digits, decimal, fitsIn, pad, same, valueOf, hasMinus, candidate, fieldOf}
 use Rattle.columns.specs.Lines.{lineEnd, lineWith, widthOf, fields, allFit, columnsOf, lineFits, tagLine, isWide, heading, title}
 use Rattle.columns.specs.Records.{tagAmong, allNumbers, numbersIn, numbersLine, recordIn, lineIn}
 use Rattle.columns.specs.Texts.{linesBy, lines, joined}
-use Rattle.runner.specs.Calls as Calls
 use Rattle.textbook.specs.Text.{refusalsFrom}
 use Rattle.fieldbook.specs.Report.{report}
 
@@ -45,5 +44,5 @@ reportA =
     ++ "PNT       3    4164      -4   11206                                                \n"
 
 pub case-a : report (bytesOf bookA) ≡ bytesOf reportA
-unfolding report linesBy lines joined lineIn recordIn numbersLine tagAmong allNumbers numbersIn putAt heading title lineWith lineEnd fieldOf candidate hasMinus valueOf same pad decimal digits digitsBy blanks tagLine lineFits columnsOf allFit widthOf fitsIn fields isWide refusalsFrom Calls.callOf roundEven isWithin
+unfolding report linesBy lines joined lineIn recordIn numbersLine tagAmong allNumbers numbersIn putAt heading title lineWith lineEnd fieldOf candidate hasMinus valueOf same pad decimal digits digitsBy blanks tagLine lineFits columnsOf allFit widthOf fitsIn fields isWide refusalsFrom roundEven isWithin
 case-a = refl

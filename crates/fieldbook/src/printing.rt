@@ -8,16 +8,16 @@ ghost use Rattle.numbers.specs.Whole.{putAt};
 ghost use Rattle.columns.specs.Texts.{joined};
 ghost use Rattle.fieldbook.specs.Report.{closedLine, pointLine, openLine, closingLines};
 ghost use Rattle.fieldbook.specs.Fits.{closedFits, pointFits};
-ghost use Rattle.fieldbook.specs.Printed.{refusalBytes, refusalLines, closingIn, bookLines, stateLines, pointsFit, ClosingFits, Printable};
-use adjust::Adjusted;
+ghost use Rattle.book.specs.Calls.{closingIn};
+ghost use Rattle.fieldbook.specs.code.Printed.{refusalBytes, refusalLines, bookLines, stateLines, pointsFit, ClosingFits, Printable};
 use adjust::Point;
 use adjust::Summary;
+use book::CloseAnswer;
 use book::calls::figures_of;
 use columns::writer::is_wide;
 use columns::writer::put_line;
 use columns::writer::put_title;
 use rules::Book;
-use rules::state::is_closed;
 use textbook::reading::State;
 
 // The refusal of a line, where there is one: the index after it.
@@ -90,13 +90,11 @@ fn put_points(buf: &mut [u8], at: usize, points: [Point; 65], n: usize)
 }
 
 // What closing the line gave: the index after it.
-fn put_closing(buf: &mut [u8], at: usize, x: Adjusted) -> usize
-    requires { ⌜ ClosingFits x × (at + length (joined (closingLines (closingIn x))) ≤ length (now buf)) ⌝ }
-    ensures { λ r. ⌜ r ≡ at + length (joined (closingLines (closingIn x))) ⌝ }
-    ensures { λ r. ⌜ now (buf .exit) ≡ putAt (now (buf .entry)) at (joined (closingLines (closingIn x))) ⌝ }
+fn put_closing(buf: &mut [u8], at: usize, summary: Summary, points: [Point; 65]) -> usize
+    requires { ⌜ ClosingFits summary points × (at + length (joined (closingLines (closingIn summary points))) ≤ length (now buf)) ⌝ }
+    ensures { λ r. ⌜ r ≡ at + length (joined (closingLines (closingIn summary points))) ⌝ }
+    ensures { λ r. ⌜ now (buf .exit) ≡ putAt (now (buf .entry)) at (joined (closingLines (closingIn summary points))) ⌝ }
 {
-    let summary = x.summary;
-    let points = x.points;
     let n = summary.count + 1;
     put_closed(buf, at, summary);
     put_points(buf, at + 84, points, n);
@@ -109,14 +107,17 @@ fn put_book(buf: &mut [u8], at: usize, b: Book) -> usize
     ensures { λ r. ⌜ r ≡ at + length (joined (bookLines b)) ⌝ }
     ensures { λ r. ⌜ now (buf .exit) ≡ putAt (now (buf .entry)) at (joined (bookLines b)) ⌝ }
 {
-    let line = b.line;
-    let stage = line.stage;
-    if is_closed(stage) {
-        return put_closing(buf, at, figures_of(b));
+    let figures = figures_of(b);
+    let answer = figures.answer;
+    let points = figures.points;
+    match answer {
+        CloseAnswer::Closed(summary) => put_closing(buf, at, summary, points),
+        CloseAnswer::NotClosed(_) => {
+            let sections = b.sections;
+            put_open(buf, at, sections.count);
+            at + 84
+        }
     }
-    let sections = b.sections;
-    put_open(buf, at, sections.count);
-    at + 84
 }
 
 // The report of what was read: its length.

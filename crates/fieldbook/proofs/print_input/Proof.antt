@@ -9,7 +9,7 @@ use Rattle.numbers.specs.Whole.{putAt}
 use Rattle.numbers.proofs.Arrays.{put-none}
 use Rattle.fieldbook.specs.declared.Reduced.{Reduced}
 use Rattle.fieldbook.specs.Report.{report, reducedLength}
-use Rattle.fieldbook.specs.Printed.{refusalBytes}
+use Rattle.fieldbook.specs.code.Printed.{refusalBytes}
 use Rattle.fieldbook.proofs.Reports.{answered, not-refused, prints-9, prints-report, prints-nothing, prints-text}
 use borrow.Author.Needs.{needs}
 use Rattle.fieldbook.proofs.print_input.Statement.{statement}

@@ -5,13 +5,13 @@ use Prim.Native.Nat.{ℕ, _≤_}
 use native.Mathlib.Omega.{arith}
 use lib.ListN.{length}
 use Rattle.numbers.specs.Whole.{putAt}
-use Rattle.columns.specs.Texts.{joined}
+use Rattle.columns.specs.Texts.{lines, joined}
 use Rattle.textbook.specs.declared.reading.State.{State}
 use Rattle.fieldbook.specs.declared.Reduced.the-variants.{Written}
 use Rattle.fieldbook.specs.Report.{report}
-use Rattle.fieldbook.specs.Printed.{stateLines, Printable}
+use Rattle.fieldbook.specs.code.Printed.{stateLines, Printable}
 use Rattle.fieldbook.proofs.Bytes.{report-fits}
-use Rattle.fieldbook.proofs.Reports.{report-read, read-fits, answered, reduces, too-long, too-small, not-refused}
+use Rattle.fieldbook.proofs.Reports.{report-read, state-printable, answered, reduces, too-long, too-small, not-refused}
 use borrow.Author.Needs.{needs}
 use Rattle.fieldbook.proofs.reduce_text.Statement.{statement}
 use Rattle.fieldbook.proofs.reduce_text.Tie as tie
@@ -51,7 +51,7 @@ put-state-requires c κs =
     let t = text c in (
       omega arith,
       (
-        subst (λ (s : State). Printable (s .book)) (sym (c .read-text .ensures)) (read-fits t (short c)),
+        subst (λ (s : State). Printable (s .book)) (sym (c .read-text .ensures)) (state-printable (lines t)),
         omega (arith, ap length (same c), report-fits t (short c)),
       ),
     )

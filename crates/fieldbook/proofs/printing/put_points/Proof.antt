@@ -11,7 +11,7 @@ use Rattle.columns.specs.Texts.{joined}
 use Rattle.adjust.specs.Frames.{noPoint}
 use Rattle.fieldbook.specs.Report.{pointLine}
 use Rattle.fieldbook.specs.Fits.{pointFits}
-use Rattle.fieldbook.specs.Printed.{pointsFit}
+use Rattle.fieldbook.specs.code.Printed.{pointsFit}
 use Rattle.fieldbook.proofs.Written.{Left, left-all, left-turn, left-none, pointsLeft, points-turn, no-point-left, first-fits, others-fit, point-piece, point-long}
 use Rattle.fieldbook.proofs.printing.put_points.Statement.{statement}
 use Rattle.fieldbook.proofs.printing.put_points.Tie as tie

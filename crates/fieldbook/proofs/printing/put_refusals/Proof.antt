@@ -4,7 +4,7 @@ use Prim.Native.Nat.{_+_, _-_, _*_, _≤_}
 use native.Mathlib.Omega.{arith}
 use borrow.Author.Needs.{needs}
 use lib.ListN.{length, getD}
-use Rattle.fieldbook.specs.Printed.{refusalBytes}
+use Rattle.fieldbook.specs.code.Printed.{refusalBytes}
 use Rattle.fieldbook.proofs.Written.{Left, left-all, left-turn, left-none, refusal-short, refusalsLeft, refusals-turn, no-refusal-left}
 use Rattle.fieldbook.proofs.printing.put_refusals.Statement.{statement}
 use Rattle.fieldbook.proofs.printing.put_refusals.Tie as tie

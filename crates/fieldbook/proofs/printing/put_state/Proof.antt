@@ -10,7 +10,7 @@ use Rattle.columns.specs.Lines.{title}
 use Rattle.columns.specs.Texts.{joined}
 use Rattle.columns.proofs.Put.{placed-room}
 use Rattle.columns.proofs.Lines.{length-title}
-use Rattle.fieldbook.specs.Printed.{refusalLines, bookLines}
+use Rattle.fieldbook.specs.code.Printed.{refusalLines, bookLines}
 use Rattle.fieldbook.proofs.Written.{state-long, state-put}
 use borrow.Author.Needs.{needs}
 use Rattle.fieldbook.proofs.printing.put_state.Statement.{statement}

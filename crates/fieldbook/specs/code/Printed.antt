@@ -2,17 +2,17 @@
 use mathlib.Core.Path.{_≡_}
 use mathlib.Core.Bool.{true, false, not, cond}
 use mathlib.Core.List.{List, [], _∷_, _++_, map}
-use Prim.Native.Nat.{ℕ, _+_, _≤_}
+use Prim.Native.Nat.{ℕ, _≤_}
 use lib.Dec.{eqb}
-use lib.ListN.{length, take}
+use lib.ListN.{length}
 use Rattle.numbers.specs.Whole.{anyOf}
 use Rattle.adjust.specs.declared.Point.{Point}
-use Rattle.adjust.specs.declared.Adjusted.{Adjusted}
-use Rattle.adjust.specs.Line.{Closing}
+use Rattle.adjust.specs.declared.Summary.{Summary}
 use Rattle.columns.specs.Lines.{title}
 use Rattle.rules.specs.declared.Book.{Book}
-use Rattle.rules.specs.Standing.{isClosed}
-use Rattle.book.specs.Calls.{figuresOf}
+use Rattle.book.specs.declared.CloseAnswer.{CloseAnswer}
+use Rattle.book.specs.declared.CloseAnswer.the-variants.{Closed, NotClosed}
+use Rattle.book.specs.Calls.{closingIn, figuresOf}
 use Rattle.textbook.specs.declared.reading.State.{State}
 use Rattle.textbook.specs.Text.{refusalsFrom}
 use Rattle.fieldbook.specs.Report.{refLine, openLine, closingLines}
@@ -26,12 +26,13 @@ refusalBytes k n = cond (eqb n 0) [] (refLine (record { line = k; number = n }))
 abbrev pub refusalLines : ℕ → List ℕ → List (List ℕ)
 refusalLines k ns = map refLine (refusalsFrom k ns)
 
--- the closing whose points an array holds
-abbrev pub closingIn : Adjusted → Closing
-closingIn x = record { summary = x .summary; points = take (x .summary .count + 1) (x .points) }
+-- of a book whose figures were asked for: the closing, or how many sections the line has
+abbrev pub answerLines : Book → List Point → CloseAnswer → List (List ℕ)
+answerLines b ps (Closed s) = closingLines (closingIn s ps)
+answerLines b ps (NotClosed n) = openLine (b .sections .count) ∷ []
 
 abbrev pub bookLines : Book → List (List ℕ)
-bookLines b = cond (isClosed (b .line .stage)) (closingLines (closingIn (figuresOf b))) (openLine (b .sections .count) ∷ [])
+bookLines b = answerLines b (figuresOf b .points) (figuresOf b .answer)
 
 unfoldable pub stateLines : State → List (List ℕ)
 stateLines s = title ∷ (refusalLines 0 (s .refusals) ++ bookLines (s .book))
@@ -42,12 +43,12 @@ abbrev pub pointsFit : List Point → Type 0
 pointsFit ps = anyOf (λ (p : Point). not (pointFits p)) ps ≡ false
 
 -- the figures fit their fields
-pub record ClosingFits (x : Adjusted) : Type 0 where
-  pub few : x .summary .count ≤ 64
-  pub places : length (x .points) ≡ 65
-  pub summary : closedFits (x .summary) ≡ true
-  pub points : pointsFit (closingIn x .points)
+pub record ClosingFits (s : Summary) (ps : List Point) : Type 0 where
+  pub few : s .count ≤ 64
+  pub places : length ps ≡ 65
+  pub summary : closedFits s ≡ true
+  pub points : pointsFit (closingIn s ps .points)
 
 pub record Printable (b : Book) : Type 0 where
   pub few : b .sections .count ≤ 64
-  pub closing : isClosed (b .line .stage) ≡ true → ClosingFits (figuresOf b)
+  pub closing : (s : Summary) → figuresOf b .answer ≡ Closed s → ClosingFits s (figuresOf b .points)
