@@ -16,7 +16,7 @@ use Rattle.columns.specs.declared.reader.Field.the-variants.{Number, Bad
 use Rattle.records.specs.declared.Tag.{Tag}
 use Rattle.records.specs.declared.Kind.{Kind}
 use Rattle.records.specs.declared.Kind.the-variants.{Record, Refused}
-use Rattle.columns.specs.declared.reader.Line.{Line}
+use Rattle.columns.specs.declared.reader.TextLine.{TextLine}
 use Rattle.columns.specs.Decimals.{same, fieldOf}
 use Rattle.columns.specs.Lines.{lineEnd}
 use Rattle.columns.specs.Records.{letters, fieldCount, tags, tagAmong, isNumber, numberOf, allNumbers, numbersIn, refusedLine, recordLine, numbersLine, recordIn, lineOfKind, lineIn, kindNumber, kindTags, hasShape, hasNumbers, lineTests, Parses}
@@ -123,18 +123,18 @@ line-length l h = go (tagAmong tags (take 3 l)) refl
 
 -- of a record by its two tests
 answered : (t : Tag) (zs : List ℤ) (shape numbers : Bool)
-    → let x : Line = cond shape (cond numbers (recordLine t zs) (refusedLine 2)) (refusedLine 1) in
+    → let x : TextLine = cond shape (cond numbers (recordLine t zs) (refusedLine 2)) (refusedLine 1) in
     let n : ℕ = firstOf ((1, not shape) ∷ (2, not numbers) ∷ []) in
     (kindNumber (x .kind) ≡ n) × (kindTags (x .kind) ≡ cond (eqb n 0) (t ∷ []) [])
 answered t zs true true = (refl, refl)
 answered t zs true false = (refl, refl)
 answered t zs false numbers = (refl, refl)
 
-pub parses : (l : List ℕ) {r : Line} → r ≡ lineIn l → Parses l r
+pub parses : (l : List ℕ) {r : TextLine} → r ≡ lineIn l → Parses l r
 unfolding lineIn recordIn numbersLine
 parses l e =
     let t = go (tagAmong tags (take 3 l)) refl in
-    (e, (ap (λ (x : Line). kindNumber (x .kind)) e ∙ t .0, ap (λ (x : Line). kindTags (x .kind)) e ∙ t .1))
+    (e, (ap (λ (x : TextLine). kindNumber (x .kind)) e ∙ t .0, ap (λ (x : TextLine). kindTags (x .kind)) e ∙ t .1))
   where
     go : (k : Kind) → tagAmong tags (take 3 l) ≡ k
         → let n : ℕ = firstOf ((1, not (hasShape k l)) ∷ (2, not (hasNumbers k l)) ∷ []) in

@@ -14,7 +14,7 @@ use Rattle.columns.specs.declared.reader.Field.the-variants.{Number, Bad
 use Rattle.records.specs.declared.Tag.{Tag}
 use Rattle.records.specs.declared.Kind.{Kind}
 use Rattle.records.specs.declared.Kind.the-variants.{Record, Refused}
-use Rattle.columns.specs.declared.reader.Line.{Line}
+use Rattle.columns.specs.declared.reader.TextLine.{TextLine}
 use Rattle.columns.specs.Decimals.{fitsIn, pad, same, fieldOf}
 use Rattle.columns.specs.Lines.{lineEnd, lineWith, widthOf, fields, allFit, lineFits, tagLine}
 use Rattle.columns.specs.Records.{letters, fieldCount, tags, tagAmong, isNumber, numberOf, allNumbers, numbersIn, zeros, refusedLine, recordLine, numbersLine, recordIn, lineOfKind, lineIn}
@@ -157,7 +157,7 @@ refused-record e = let o : _≡_ {A = ℕ} 0 1 = cc in omega arith
 
 module _ (l : List ℕ) (t : Tag) where
   -- of a line with tag u that was read as a record with tag t
-  abbrev Result : Line → Type 0
+  abbrev Result : TextLine → Type 0
   Result x = x .kind ≡ Record t → Written t (take (fieldCount t) (x .values)) l
 
   taken : (u : Tag) → take 3 l ≡ letters u → Result (recordIn u l)

@@ -14,7 +14,7 @@ use Rattle.records.specs.declared.Tag.{Tag}
 use Rattle.records.specs.declared.Tag.the-variants.{Lin, Sta, Run, Drr, Drs, End}
 use Rattle.records.specs.declared.Kind.{Kind}
 use Rattle.records.specs.declared.Kind.the-variants.{Record, Refused}
-use Rattle.columns.specs.declared.reader.Line.{Line}
+use Rattle.columns.specs.declared.reader.TextLine.{TextLine}
 use Rattle.columns.specs.Decimals.{same, fieldOf}
 use Rattle.columns.specs.Lines.{lineEnd}
 
@@ -72,30 +72,30 @@ abbrev pub zeros : List ℤ
 zeros = replicate 10 (pos 0)
 
 -- a line refused with document 01's number k
-abbrev pub refusedLine : ℕ → Line
+abbrev pub refusedLine : ℕ → TextLine
 refusedLine k = record { kind = Refused k; values = zeros }
 
 -- a record with the tag t and the numbers zs; the places past them are 0
-abbrev pub recordLine : Tag → List ℤ → Line
+abbrev pub recordLine : Tag → List ℤ → TextLine
 recordLine t zs = record { kind = Record t; values = putAt zeros 0 zs }
 
 -- the tag with the numbers of the n fields at the start of t; refused with 2 where a field is not a number
-unfoldable pub numbersLine : Tag → ℕ → List ℕ → Line
+unfoldable pub numbersLine : Tag → ℕ → List ℕ → TextLine
 numbersLine tag n t = cond (allNumbers n t) (recordLine tag (numbersIn n t)) (refusedLine 2)
 
 -- a line of a known tag, refused with 1 where anything but blanks up to column 83 and a line feed follows its last field: so a line has 84 bytes
-unfoldable pub recordIn : Tag → List ℕ → Line
+unfoldable pub recordIn : Tag → List ℕ → TextLine
 recordIn t l =
     let n : ℕ = fieldCount t in
     let from : ℕ = 3 + 8 * n in
     cond (same (drop from l) (lineEnd from)) (numbersLine t n (drop 3 l)) (refusedLine 1)
 
-abbrev pub lineOfKind : Kind → List ℕ → Line
+abbrev pub lineOfKind : Kind → List ℕ → TextLine
 lineOfKind (Record t) l = recordIn t l
 lineOfKind (Refused k) l = refusedLine k
 
 -- a line of the text book
-unfoldable pub lineIn : List ℕ → Line
+unfoldable pub lineIn : List ℕ → TextLine
 lineIn l = lineOfKind (tagAmong tags (take 3 l)) l
 
 -- ---- what is answered of a line
@@ -124,7 +124,7 @@ abbrev pub lineTests : List ℕ → List (ℕ × Bool)
 lineTests l = let k : Kind = tagAmong tags (take 3 l) in (1, not (hasShape k l)) ∷ (2, not (hasNumbers k l)) ∷ []
 
 -- r is the line that l is, and has, by `kindNumber` and `kindTags`, the number of the first test that holds, and its tag where none does
-abbrev pub Parses : List ℕ → Line → Type 0
+abbrev pub Parses : List ℕ → TextLine → Type 0
 Parses l r =
     let n : ℕ = firstOf (lineTests l) in
     (r ≡ lineIn l) × ((kindNumber (r .kind) ≡ n) × (kindTags (r .kind) ≡ cond (eqb n 0) (kindTags (tagAmong tags (take 3 l))) []))

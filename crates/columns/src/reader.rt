@@ -18,7 +18,7 @@ pub enum Field {
 }
 
 // A line, with its numbers; the places past them, and all places of a refused line, are 0.
-pub struct Line {
+pub struct TextLine {
     pub kind: Kind,
     pub values: [i64; 10],
 }
@@ -102,17 +102,17 @@ fn read_field(bs: &[u8]) -> Field
 }
 
 // A line refused with this number of document 01.
-fn refused(number: u8) -> Line
+fn refused(number: u8) -> TextLine
     ensures { λ r. ⌜ r ≡ refusedLine number ⌝ }
 {
-    Line {
+    TextLine {
         kind: Kind::Refused(number),
         values: [0; 10],
     }
 }
 
 // The numbers of the first n fields of a line, under the tag.
-fn read_numbers(line: &[u8], tag: Tag, n: usize) -> Line
+fn read_numbers(line: &[u8], tag: Tag, n: usize) -> TextLine
     requires { ⌜ (n ≤ 10) × (3 + 8 * n ≤ length (now line)) ⌝ }
     ensures { λ r. ⌜ r ≡ numbersLine tag n (drop 3 (now (line .entry))) ⌝ }
 {
@@ -128,7 +128,7 @@ fn read_numbers(line: &[u8], tag: Tag, n: usize) -> Line
         values[i] = v;
         i += 1;
     }
-    Line {
+    TextLine {
         kind: Kind::Record(tag),
         values,
     }
@@ -184,7 +184,7 @@ fn ends_from(line: &[u8], from: usize) -> bool
 }
 
 // A line of 84 bytes with a known tag.
-fn read_record(line: &[u8], tag: Tag) -> Line
+fn read_record(line: &[u8], tag: Tag) -> TextLine
     requires { ⌜ length (now line) ≡ 84 ⌝ }
     ensures { λ r. ⌜ r ≡ recordIn tag (now (line .entry)) ⌝ }
 {
@@ -197,7 +197,7 @@ fn read_record(line: &[u8], tag: Tag) -> Line
 }
 
 // A line of the text book: its tag and numbers, or its refusal.
-pub fn parse_line(line: &[u8]) -> Line
+pub fn parse_line(line: &[u8]) -> TextLine
     ensures { λ r. ⌜ Parses (now (line .entry)) r ⌝ }
 {
     if line.len() != 84 {

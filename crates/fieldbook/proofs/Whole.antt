@@ -16,7 +16,7 @@ use Rattle.adjust.specs.declared.Point.{Point}
 use Rattle.records.specs.declared.Tag.{Tag}
 use Rattle.records.specs.declared.Kind.{Kind}
 use Rattle.records.specs.declared.Kind.the-variants.{Record, Refused}
-use Rattle.columns.specs.declared.reader.Line.{Line}
+use Rattle.columns.specs.declared.reader.TextLine.{TextLine}
 use Rattle.columns.specs.Decimals.{same}
 use Rattle.columns.specs.Lines.{lineEnd, heading, title}
 use Rattle.columns.specs.Records.{letters, tags, tagAmong, fieldCount, allNumbers, numbersIn, refusedLine, recordLine, numbersLine, recordIn, lineOfKind, lineIn}
@@ -43,7 +43,7 @@ abbrev SmallKind : Kind → Type 0
 SmallKind (Record t) = Unit {0}
 SmallKind (Refused n) = n ≤ 99
 
-abbrev Small : Line → Type 0
+abbrev Small : TextLine → Type 0
 Small l = SmallKind (l .kind)
 
 no-tag : (ts : List Tag) (w : List ℕ) → SmallKind (tagAmong ts w)

@@ -15,7 +15,7 @@ use Rattle.numbers.proofs.Arrays.{put-cons, put-all}
 use Rattle.columns.specs.declared.reader.Field.the-variants.{Number}
 use Rattle.records.specs.declared.Tag.{Tag}
 use Rattle.records.specs.declared.Kind.the-variants.{Record}
-use Rattle.columns.specs.declared.reader.Line.{Line}
+use Rattle.columns.specs.declared.reader.TextLine.{TextLine}
 use Rattle.columns.specs.Decimals.{fieldOf}
 use Rattle.columns.specs.Records.{zeros, allNumbers, numbersIn}
 use Rattle.columns.proofs.Records.{fieldAt, numbers-next, numbers-stop, numbers-end, values-next, values-end, line-refused, line-taken}
@@ -32,7 +32,7 @@ Inv-loop line tag n values₀ i₀ values i =
 abbrev μ-loop : tie.MeasureT-loop
 μ-loop line tag n values₀ i₀ values i = n - i
 
-abbrev made : Tag → List ℤ → Line
+abbrev made : Tag → List ℤ → TextLine
 made t vs = record { kind = Record t; values = vs }
 
 -- what was read is field i

@@ -4,7 +4,7 @@ use mathlib.Core.List.{List}
 use Prim.Native.Nat.{ℕ}
 use Rattle.adjust.proofs.Holding.{Whole}
 use Rattle.records.specs.declared.Kind.{Kind}
-use Rattle.columns.specs.declared.reader.Line.{Line}
+use Rattle.columns.specs.declared.reader.TextLine.{TextLine}
 use Rattle.columns.specs.Records.{lineIn}
 use Rattle.rules.specs.declared.Book.{Book}
 use Rattle.rules.specs.Standing.{bookIn}
@@ -37,7 +37,7 @@ book s = let a = s .args in bookIn (a .line) (a .count) (a .numbers .now) (a .he
 whole : (s : tie.Start) → Whole (book s .sections)
 whole s = record { numbers = s .pre .0; heights = s .pre .1 .0; distances = s .pre .1 .1 .0; discrepancies = s .pre .1 .1 .1 }
 
-entry-is : (l : List ℕ) {x : Line} {k : Kind} → x ≡ lineIn l → x .kind ≡ k → entryOf k (x .values) ≡ lineEntry l
+entry-is : (l : List ℕ) {x : TextLine} {k : Kind} → x ≡ lineIn l → x .kind ≡ k → entryOf k (x .values) ≡ lineEntry l
 entry-is l {x} p e = (λ i. entryOf (sym e i) (x .values)) ∙ (λ i. entryOf (p i .kind) (p i .values))
 
 returns : tie.Need-returns
