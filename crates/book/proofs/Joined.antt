@@ -34,7 +34,7 @@ use Rattle.book.specs.declared.Change.{Change}
 use Rattle.book.specs.declared.Step.{Step}
 use Rattle.book.specs.declared.Outcome.{Outcome}
 use Rattle.book.specs.Calls.{bookAfter, stepOf, outcome, Answers}
-use Rattle.book.specs.code.Changes.{noSection, movedTo, effectOf, changeBy, changeOf, stores, storedIn, withChange, changed}
+use Rattle.book.specs.code.Changes.{noSection, lineOnly, effectOf, changeBy, changeOf, stores, storedIn, withChange, changed}
 
 -- ---- a section that is stored
 
@@ -129,13 +129,13 @@ module _ (b : Book) (w : Whole (b .sections)) where
   unfolding bookAfter
   made c =
       let n = bookRefusal (standingOf b) c in
-      by-test (eqb n 0) (λ t. changed b (cond t (effectOf (b .line) c) (movedTo n (b .line))) ≡ cond t (bookWith b (taken (standingOf b) c)) b)
+      by-test (eqb n 0) (λ t. changed b (cond t (effectOf (b .line) c) (lineOnly n (b .line))) ≡ cond t (bookWith b (taken (standingOf b) c)) b)
       (λ t. effect c (eqb→eq n 0 t)) (λ t. refl)
 
   pub step-made : (c : Call) {x : Change} → x ≡ changeOf b c → record { number = x .number; book = changed b x } ≡ stepOf b c
   step-made c e =
       let n = bookRefusal (standingOf b) c in
-      let number = by-test (eqb n 0) (λ t. cond t (effectOf (b .line) c) (movedTo n (b .line)) .number ≡ n) (λ t. taken-number (b .line) c ∙ sym (eqb→eq n 0 t)) (λ t. refl) in
+      let number = by-test (eqb n 0) (λ t. cond t (effectOf (b .line) c) (lineOnly n (b .line)) .number ≡ n) (λ t. taken-number (b .line) c ∙ sym (eqb→eq n 0 t)) (λ t. refl) in
       (λ i. record { number = e i .number; book = changed b (e i) }) ∙ (λ i. record { number = number i; book = made c i })
 
 pub left-as-it-was : (b : Book) (c : Call) → (bookRefusal (standingOf b) c ≡ 0 → ⊥) → b ≡ bookAfter b c
@@ -164,15 +164,15 @@ plain c = refl
 -- ---- what a call c, which is read back as d, changes of a line, by the number that v gives
 
 module _ (v : Standing) (l : Line) {c d : Call} (same : d ≡ c) {code : ℕ} (e : code ≡ bookRefusal v d) where
-  pub change-refused : {x : Change} → (code ≡ 0 → ⊥) → x ≡ movedTo code l → x ≡ changeBy (bookRefusal v c) l c
+  pub change-refused : {x : Change} → (code ≡ 0 → ⊥) → x ≡ lineOnly code l → x ≡ changeBy (bookRefusal v c) l c
   change-refused {x} f m =
       subst (λ (k : Call). x ≡ changeBy (bookRefusal v k) l k) same
-      (m ∙ sym (nonzero-cond code (effectOf l d) (movedTo code l) f) ∙ ap (λ (n : ℕ). changeBy n l d) e)
+      (m ∙ sym (nonzero-cond code (effectOf l d) (lineOnly code l) f) ∙ ap (λ (n : ℕ). changeBy n l d) e)
 
   pub change-taken : {x : Change} → code ≡ 0 → x ≡ effectOf l d → x ≡ changeBy (bookRefusal v c) l c
   change-taken {x} z m =
       subst (λ (k : Call). x ≡ changeBy (bookRefusal v k) l k) same
-      (m ∙ sym (zero-cond code (effectOf l d) (movedTo code l) z) ∙ ap (λ (n : ℕ). changeBy n l d) e)
+      (m ∙ sym (zero-cond code (effectOf l d) (lineOnly code l) z) ∙ ap (λ (n : ℕ). changeBy n l d) e)
 
 -- ---- what an outcome answers
 

@@ -5,7 +5,7 @@ ghost use Rattle.rules.specs.Standing.{bookIn, standingIn};
 ghost use Rattle.rules.specs.code.Seen.{numbersIn, beside};
 ghost use Rattle.rules.specs.Rules.{open-line, station, end-run, drop-run, drop-section, close-line, bookRefusal};
 ghost use Rattle.rules.specs.Records.{callOf};
-ghost use Rattle.book.specs.code.Changes.{movedTo, changeBy, changeOf};
+ghost use Rattle.book.specs.code.Changes.{lineOnly, changeBy, changeOf};
 use super::Change;
 use super::effects::begun;
 use super::effects::closed;
@@ -25,8 +25,8 @@ use rules::refusals::station_refusal;
 use station::Readings;
 
 // A change of the line alone. Of a call that is refused the line is the old one.
-pub(crate) fn moved(number: u8, line: Line) -> Change
-    ensures { λ r. ⌜ r ≡ movedTo number line ⌝ }
+pub(crate) fn line_only(number: u8, line: Line) -> Change
+    ensures { λ r. ⌜ r ≡ lineOnly number line ⌝ }
 {
     let none = Section {
         number: 0,
@@ -54,9 +54,9 @@ fn open_change(
 {
     let code = open_refusal(line, count, order, instrument, number, height);
     if code != 0 {
-        return moved(code, line);
+        return line_only(code, line);
     }
-    moved(0, begun(opening_of(order, instrument, number, height)))
+    line_only(0, begun(opening_of(order, instrument, number, height)))
 }
 
 pub(crate) fn station_change(
@@ -71,13 +71,13 @@ pub(crate) fn station_change(
 {
     let read = station::read(kb, kf, readings);
     match read {
-        Readings::Refused(number) => moved(number, line),
+        Readings::Refused(number) => line_only(number, line),
         Readings::Station(f) => {
             let code = station_refusal(line, count, numbers, kb, f);
             if code != 0 {
-                return moved(code, line);
+                return line_only(code, line);
             }
-            moved(0, with_station(line, f, kf))
+            line_only(0, with_station(line, f, kf))
         }
     }
 }
@@ -96,7 +96,7 @@ fn end_change(line: Line, count: usize, numbers: &[i64; 64], number: i64) -> Cha
 {
     let code = end_refusal(line, count, numbers, number);
     if code != 0 {
-        return moved(code, line);
+        return line_only(code, line);
     }
     run_ended(line, number)
 }
@@ -106,9 +106,9 @@ fn drop_run_change(line: Line, count: usize) -> Change
 {
     let code = drop_refusal(line, count);
     if code != 0 {
-        return moved(code, line);
+        return line_only(code, line);
     }
-    moved(0, run_dropped(line))
+    line_only(0, run_dropped(line))
 }
 
 fn drop_section_change(line: Line, count: usize) -> Change
@@ -116,9 +116,9 @@ fn drop_section_change(line: Line, count: usize) -> Change
 {
     let code = drop_refusal(line, count);
     if code != 0 {
-        return moved(code, line);
+        return line_only(code, line);
     }
-    moved(0, section_dropped(line))
+    line_only(0, section_dropped(line))
 }
 
 fn close_change<'a>(
@@ -144,9 +144,9 @@ fn close_change<'a>(
         end,
     );
     if code != 0 {
-        return moved(code, line);
+        return line_only(code, line);
     }
-    moved(0, closed(line, end))
+    line_only(0, closed(line, end))
 }
 
 // Of the record with this tag and these numbers. No list is written, and none is copied but those of a line that is closed.

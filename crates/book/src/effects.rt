@@ -9,7 +9,7 @@ ghost use Rattle.rules.specs.Rules as Rules;
 ghost use Rattle.rules.specs.code.Bounds.{SmallRun, SmallRuns};
 ghost use Rattle.book.specs.code.Changes.{effectOf};
 use super::Change;
-use super::decisions::moved;
+use super::decisions::line_only;
 use adjust::Benchmark;
 use adjust::Opening;
 use adjust::Section;
@@ -161,7 +161,7 @@ fn outward_ended(line: Line, number: i64) -> Change
     let present = line.present;
     let terms = terms_of(order);
     if terms.double {
-        return moved(
+        return line_only(
             0,
             with_runs(line, Waiting::Outward(number, present), no_run()),
         );

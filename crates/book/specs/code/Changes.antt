@@ -18,8 +18,8 @@ abbrev pub noSection : Section
 noSection = unnumbered (pos 0) (pos 0) (pos 0)
 
 -- a change of the line alone
-abbrev pub movedTo : ℕ → Line → Change
-movedTo number l = record { number = number; line = l; finishes = false; section = noSection }
+abbrev pub lineOnly : ℕ → Line → Change
+lineOnly number l = record { number = number; line = l; finishes = false; section = noSection }
 
 -- what a call that is taken changes, told by the rules of the line beside no sections: a section that it finishes is then the only one
 unfoldable pub effectOf : Line → Call → Change
@@ -29,7 +29,7 @@ effectOf l c =
 
 -- and a call that is answered with n: one that is refused changes nothing
 abbrev pub changeBy : ℕ → Line → Call → Change
-changeBy n l c = cond (eqb n 0) (effectOf l c) (movedTo n l)
+changeBy n l c = cond (eqb n 0) (effectOf l c) (lineOnly n l)
 
 abbrev pub changeOf : Book → Call → Change
 changeOf b c = changeBy (bookRefusal (standingOf b) c) (b .line) c

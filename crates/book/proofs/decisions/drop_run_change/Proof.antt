@@ -2,7 +2,7 @@
 use mathlib.Core.Path.{ap, _∙_}
 use Rattle.rules.specs.Rules.{drop-run}
 use Rattle.rules.specs.code.Seen.{beside}
-use Rattle.book.specs.code.Changes.{movedTo, effectOf}
+use Rattle.book.specs.code.Changes.{lineOnly, effectOf}
 use Rattle.book.proofs.Joined.{plain, change-refused, change-taken}
 use borrow.Author.Needs.{needs}
 use Rattle.book.proofs.decisions.drop_run_change.Statement.{statement}
@@ -11,21 +11,21 @@ use Rattle.book.proofs.decisions.drop_run_change.Tie as tie
 drop-refusal-requires : tie.Need-drop-refusal-requires
 drop-refusal-requires c κs = search needs
 
-moved-requires : tie.Need-moved-requires
-moved-requires c κs = search needs
+line-only-requires : tie.Need-line-only-requires
+line-only-requires c κs = search needs
 
 returns : tie.Need-returns
 returns c =
     let t = c .before in
     let r = t .before in
     let a = r .before .args in
-    change-refused (beside (a .line) (a .count)) (a .line) (plain drop-run) (r .drop-refusal .ensures) (t .if1 .taken) (c .moved .ensures)
+    change-refused (beside (a .line) (a .count)) (a .line) (plain drop-run) (r .drop-refusal .ensures) (t .if1 .taken) (c .line-only .ensures)
 
 run-dropped-requires : tie.Need-run-dropped-requires
 run-dropped-requires c κs = search needs
 
-moved-requires-2 : tie.Need-moved-requires-2
-moved-requires-2 c κs = search needs
+line-only-requires-2 : tie.Need-line-only-requires-2
+line-only-requires-2 c κs = search needs
 
 returns-2 : tie.Need-returns-2
 unfolding effectOf
@@ -34,15 +34,15 @@ returns-2 c =
     let e = d .before in
     let r = e .before in
     let a = r .before .args in
-    change-taken (beside (a .line) (a .count)) (a .line) (plain drop-run) (r .drop-refusal .ensures) (e .if1 .left) (c .moved2 .ensures ∙ ap (movedTo 0) (d .run-dropped .ensures))
+    change-taken (beside (a .line) (a .count)) (a .line) (plain drop-run) (r .drop-refusal .ensures) (e .if1 .left) (c .line-only2 .ensures ∙ ap (lineOnly 0) (d .run-dropped .ensures))
 
 pub drop-run-change-spec : {M : Type 1} → statement M
 drop-run-change-spec =
     tie.close
     (tie.spec
     drop-refusal-requires
-    moved-requires
+    line-only-requires
     returns
     run-dropped-requires
-    moved-requires-2
+    line-only-requires-2
     returns-2)

@@ -2,7 +2,7 @@
 use mathlib.Core.Path.{ap, _∙_}
 use Rattle.rules.specs.Rules.{drop-section, bookRefusal}
 use Rattle.rules.specs.code.Seen.{beside}
-use Rattle.book.specs.code.Changes.{movedTo, effectOf}
+use Rattle.book.specs.code.Changes.{lineOnly, effectOf}
 use Rattle.book.proofs.Joined.{plain, change-refused, change-taken}
 use borrow.Author.Needs.{needs}
 use Rattle.book.proofs.decisions.drop_section_change.Statement.{statement}
@@ -11,8 +11,8 @@ use Rattle.book.proofs.decisions.drop_section_change.Tie as tie
 drop-refusal-requires : tie.Need-drop-refusal-requires
 drop-refusal-requires c κs = search needs
 
-moved-requires : tie.Need-moved-requires
-moved-requires c κs = search needs
+line-only-requires : tie.Need-line-only-requires
+line-only-requires c κs = search needs
 
 returns : tie.Need-returns
 unfolding bookRefusal
@@ -20,13 +20,13 @@ returns c =
     let t = c .before in
     let r = t .before in
     let a = r .before .args in
-    change-refused (beside (a .line) (a .count)) (a .line) (plain drop-section) (r .drop-refusal .ensures) (t .if1 .taken) (c .moved .ensures)
+    change-refused (beside (a .line) (a .count)) (a .line) (plain drop-section) (r .drop-refusal .ensures) (t .if1 .taken) (c .line-only .ensures)
 
 section-dropped-requires : tie.Need-section-dropped-requires
 section-dropped-requires c κs = search needs
 
-moved-requires-2 : tie.Need-moved-requires-2
-moved-requires-2 c κs = search needs
+line-only-requires-2 : tie.Need-line-only-requires-2
+line-only-requires-2 c κs = search needs
 
 returns-2 : tie.Need-returns-2
 unfolding effectOf bookRefusal
@@ -35,15 +35,15 @@ returns-2 c =
     let e = d .before in
     let r = e .before in
     let a = r .before .args in
-    change-taken (beside (a .line) (a .count)) (a .line) (plain drop-section) (r .drop-refusal .ensures) (e .if1 .left) (c .moved2 .ensures ∙ ap (movedTo 0) (d .section-dropped .ensures))
+    change-taken (beside (a .line) (a .count)) (a .line) (plain drop-section) (r .drop-refusal .ensures) (e .if1 .left) (c .line-only2 .ensures ∙ ap (lineOnly 0) (d .section-dropped .ensures))
 
 pub drop-section-change-spec : {M : Type 1} → statement M
 drop-section-change-spec =
     tie.close
     (tie.spec
     drop-refusal-requires
-    moved-requires
+    line-only-requires
     returns
     section-dropped-requires
-    moved-requires-2
+    line-only-requires-2
     returns-2)

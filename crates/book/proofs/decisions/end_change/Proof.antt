@@ -15,8 +15,8 @@ use Rattle.book.proofs.decisions.end_change.Tie as tie
 end-refusal-requires : tie.Need-end-refusal-requires
 end-refusal-requires c κs = search needs
 
-moved-requires : tie.Need-moved-requires
-moved-requires c κs = search needs
+line-only-requires : tie.Need-line-only-requires
+line-only-requires c κs = search needs
 
 -- the line and the numbers of its sections
 abbrev held : tie.Start → Standing
@@ -27,7 +27,7 @@ returns c =
     let t = c .before in
     let r = t .before in
     let s = r .before in
-    change-refused (held s) (s .args .line) (end-as (s .fits .number)) (r .end-refusal .ensures) (t .if1 .taken) (c .moved .ensures)
+    change-refused (held s) (s .args .line) (end-as (s .fits .number)) (r .end-refusal .ensures) (t .if1 .taken) (c .line-only .ensures)
 
 run-ended-requires : tie.Need-run-ended-requires
 run-ended-requires c κs =
@@ -50,7 +50,7 @@ end-change-spec =
     tie.close
     (tie.spec
     end-refusal-requires
-    moved-requires
+    line-only-requires
     returns
     run-ended-requires
     returns-2)

@@ -15,7 +15,7 @@ use Rattle.rules.proofs.Tables.{line-whole}
 use Rattle.rules.proofs.Parts.{input-refused, later-refused}
 use Rattle.rules.proofs.Unbroken.{unbroken}
 use Rattle.rules.proofs.Looked.{counted-broken}
-use Rattle.book.specs.code.Changes.{movedTo, effectOf}
+use Rattle.book.specs.code.Changes.{lineOnly, effectOf}
 use Rattle.book.proofs.Joined.{station-as, change-refused, change-taken}
 use borrow.Author.Needs.{needs}
 use Rattle.book.proofs.decisions.station_change.Statement.{statement}
@@ -27,8 +27,8 @@ read-requires c κs = search needs
 enum-known-read : tie.Need-enum-known-read
 enum-known-read c = search needs
 
-moved-requires : tie.Need-moved-requires
-moved-requires c κs = search needs
+line-only-requires : tie.Need-line-only-requires
+line-only-requires c κs = search needs
 
 enum-known-read-2 : tie.Need-enum-known-read-2
 enum-known-read-2 c = search needs
@@ -36,11 +36,11 @@ enum-known-read-2 c = search needs
 station-refusal-requires : tie.Need-station-refusal-requires
 station-refusal-requires c κs = search needs
 
-moved-requires-2 : tie.Need-moved-requires-2
-moved-requires-2 c κs = search needs
+line-only-requires-2 : tie.Need-line-only-requires-2
+line-only-requires-2 c κs = search needs
 
-moved-requires-3 : tie.Need-moved-requires-3
-moved-requires-3 c κs = search needs
+line-only-requires-3 : tie.Need-line-only-requires-3
+line-only-requires-3 c κs = search needs
 
 -- the line and the numbers of its sections
 abbrev held : tie.Start → Standing
@@ -67,7 +67,7 @@ returns-2 c =
     let r = k .before .before in
     let s = r .before in
     let refused = of-refused (stored (s .args .kb)) (stored (s .args .kf)) (s .args .readings) (reads r (k .read2 .given .1)) in
-    change-refused (held s) (s .args .line) (same s) (input-refused (held s) (asked s) (k .read2 .given .0 .0) (refused .0) (refused .1)) (refused .1) (c .moved .ensures)
+    change-refused (held s) (s .args .line) (same s) (input-refused (held s) (asked s) (k .read2 .given .0 .0) (refused .0) (refused .1)) (refused .1) (c .line-only .ensures)
 
 -- ---- a station
 
@@ -91,7 +91,7 @@ returns c =
     let t = c .before in
     let r = t .before in
     let s = r .before .before .before .before .before in
-    change-refused (held s) (s .args .line) (same s) (number r) (t .if1 .taken) (c .moved2 .ensures)
+    change-refused (held s) (s .args .line) (same s) (number r) (t .if1 .taken) (c .line-only2 .ensures)
 
 with-station-requires : tie.Need-with-station-requires
 with-station-requires c κs =
@@ -114,7 +114,7 @@ returns-3 c =
     let s = k .before .before .before in
     let l = s .args .line in
     let line = d .with-station .ensures ∙ ap (λ (f : Figures). withRuns l (l .waiting) (withStation (l .present) f (stored (s .args .kf)))) (taken k .1) in
-    change-taken (held s) l (same s) (number r) (e .if1 .left) (c .moved3 .ensures ∙ ap (movedTo 0) line)
+    change-taken (held s) l (same s) (number r) (e .if1 .left) (c .line-only3 .ensures ∙ ap (lineOnly 0) line)
 
 pub station-change-spec : {M : Type 1} → statement M
 station-change-spec =
@@ -122,12 +122,12 @@ station-change-spec =
     (tie.spec
     read-requires
     enum-known-read
-    moved-requires
+    line-only-requires
     enum-known-read-2
     station-refusal-requires
-    moved-requires-2
+    line-only-requires-2
     returns
     with-station-requires
-    moved-requires-3
+    line-only-requires-3
     returns-2
     returns-3)

@@ -8,7 +8,7 @@ use Rattle.adjust.specs.Terms.{termsOf}
 use Rattle.rules.specs.declared.Waiting.the-variants.{Nothing, Outward}
 use Rattle.rules.specs.Standing.{noRun, oneWay}
 use Rattle.rules.specs.Rules.{withRuns}
-use Rattle.book.specs.code.Changes.{movedTo}
+use Rattle.book.specs.code.Changes.{lineOnly}
 use Rattle.book.proofs.Joined.{as-effect}
 use borrow.Author.Needs.{needs}
 use Rattle.book.proofs.effects.outward_ended.Statement.{statement}
@@ -23,8 +23,8 @@ no-run-requires c κs = search needs
 with-runs-requires : tie.Need-with-runs-requires
 with-runs-requires c κs = search needs
 
-moved-requires : tie.Need-moved-requires
-moved-requires c κs = search needs
+line-only-requires : tie.Need-line-only-requires
+line-only-requires c κs = search needs
 
 one-way-requires : tie.Need-one-way-requires
 one-way-requires c κs = search needs
@@ -43,8 +43,8 @@ returns c =
     let k = r .before in
     let s = k .before .before .before .before in
     let l = s .args .line in
-    c .moved .ensures
-    ∙ ap (movedTo 0) (w .with-runs .ensures ∙ (λ i. withRuns l (Outward (stored-id (s .fits .number) i) (l .present)) (r .no-run .ensures i)))
+    c .line-only .ensures
+    ∙ ap (lineOnly 0) (w .with-runs .ensures ∙ (λ i. withRuns l (Outward (stored-id (s .fits .number) i) (l .present)) (r .no-run .ensures i)))
     ∙ as-effect l (s .args .number) (s .pre .1) (read (k .before) ∙ k .if1 .taken)
 
 returns-2 : tie.Need-returns-2
@@ -64,7 +64,7 @@ outward-ended-spec =
     terms-of-requires
     no-run-requires
     with-runs-requires
-    moved-requires
+    line-only-requires
     returns
     one-way-requires
     finished-requires
