@@ -97,17 +97,17 @@ module _ (f : Frame) (d : 0 < natAbs (f .units *ℤ f .total)) (e : pos (natAbs 
       next-section m
       (half (natAbs (off q₂ s₂ g)) (natAbs (off q s h)) (natAbs (f .units *ℤ f .total)) _
       (subst (λ (z : ℤ). natAbs z ≤ natAbs (off q₂ s₂ g) + natAbs (off q s h))
-      (sym (share (f .units) (f .prints) (f .start) (f .closing) (f .total) q s h g (x .height) (x .distance)))
+      (sym (share (f .units) (f .prints) (f .start) (f .closure) (f .total) q s h g (x .height) (x .distance)))
       (abs-sub (off q₂ s₂ g) (off q s h)))
       m k)
       (near-after q₂ s₂ g xs m)
 
   at-start : exactTop f (pos 0) (pos 0) ≡ f .units *ℤ f .total *ℤ (f .prints *ℤ f .start)
-  at-start = exact-start (f .units) (f .prints) (f .start) (f .total) (f .closing)
+  at-start = exact-start (f .units) (f .prints) (f .start) (f .total) (f .closure)
 
   -- ---- and whose W and L are those of the sections, up to the known height `end`
 
-  module _ (end : ℤ) (ss : List Section) (w : f .closing ≡ f .units *ℤ f .start +ℤ lineHeight ss -ℤ f .units *ℤ end) (t : f .total ≡ lineLength ss) where
+  module _ (end : ℤ) (ss : List Section) (w : f .closure ≡ f .units *ℤ f .start +ℤ lineHeight ss -ℤ f .units *ℤ end) (t : f .total ≡ lineLength ss) where
     at-end : exactTop f (pos 0 +ℤ lineHeight ss) (pos 0 +ℤ lineLength ss) ≡ f .units *ℤ f .total *ℤ (f .prints *ℤ end)
     at-end =
         ap₂ (λ (x y : ℤ). f .prints *ℤ (f .units *ℤ f .start *ℤ f .total +ℤ (pos 0 +ℤ lineHeight ss) *ℤ f .total -ℤ x *ℤ (pos 0 +ℤ y))) w (sym t)

@@ -14,7 +14,7 @@ pub data Near (f : Frame) : ℤ → ℤ → List Section → List Point → Type
   no-section : {q s : ℤ} → Near f q s [] []
   next-section : {q s : ℤ} {x : Section} {p : Point} {xs : List Section} {ps : List Point}
       → 2 * natAbs (f .units *ℤ f .total *ℤ p .height -ℤ exactTop f (q +ℤ x .height) (s +ℤ x .distance)) ≤ natAbs (f .units *ℤ f .total)
-      → natAbs (p .correction *ℤ f .total +ℤ f .prints *ℤ f .closing *ℤ x .distance) ≤ natAbs (f .units *ℤ f .total)
+      → natAbs (p .correction *ℤ f .total +ℤ f .prints *ℤ f .closure *ℤ x .distance) ≤ natAbs (f .units *ℤ f .total)
       → Near f (q +ℤ x .height) (s +ℤ x .distance) xs ps
       → Near f q s (x ∷ xs) (p ∷ ps)
 
@@ -27,7 +27,7 @@ lastHeight h ps = lastOf h (map (λ (p : Point). p .height) ps)
 -- the points after the start, of the sections ss up to the known height `end`
 pub record Sound (f : Frame) (end : ℤ) (ss : List Section) (ps : List Point) : Type 0 where
   -- the corrections use up the closure
-  pub used-up : corrections ps ≡ negℤ (f .prints *ℤ f .closing)
+  pub used-up : corrections ps ≡ negℤ (f .prints *ℤ f .closure)
   -- the last height is the known one, in print units
   pub last : lastHeight (f .prints *ℤ f .start) ps ≡ f .prints *ℤ end
   pub near : Near f (pos 0) (pos 0) ss ps

@@ -42,20 +42,20 @@ pub record Frame : Type 0 where
   -- the known height at the start, mm
   pub start : ℤ
   -- W, in the units of Q
-  pub closing : ℤ
+  pub closure : ℤ
   -- L, half dm
   pub total : ℤ
 
 -- in the base's units: quarter mm, printed in whole mm
 abbrev pub frame : ℤ → Totals → Frame
-frame start t = record { units = pos 4; prints = pos 1; start = start; closing = t .closure; total = t .distance }
+frame start t = record { units = pos 4; prints = pos 1; start = start; closure = t .closure; total = t .distance }
 
 abbrev pub frameOf : ℤ → ℤ → List Section → Frame
 frameOf start end ss = frame start (totals start end ss)
 
 -- the exact height at running sums q (of Q) and s (of R) is exactTop / (units × total) print units
 abbrev pub exactTop : Frame → ℤ → ℤ → ℤ
-exactTop f q s = f .prints *ℤ (f .units *ℤ f .start *ℤ f .total +ℤ q *ℤ f .total -ℤ f .closing *ℤ s)
+exactTop f q s = f .prints *ℤ (f .units *ℤ f .start *ℤ f .total +ℤ q *ℤ f .total -ℤ f .closure *ℤ s)
 
 abbrev pub printedHeight : Frame → ℤ → ℤ → ℤ
 printedHeight f q s = roundEven (exactTop f q s) (natAbs (f .units *ℤ f .total))
@@ -107,6 +107,6 @@ closing o end ss =
     let t : ℤ = accidentalSum terms ss in
     record {
       -- W as printed, in the corrections' unit
-      summary = record { closure = f .prints *ℤ f .closing; distance = f .total; count = length ss; accidental = t; verdict = verdict terms (length ss) t };
+      summary = record { closure = f .prints *ℤ f .closure; distance = f .total; count = length ss; accidental = t; verdict = verdict terms (length ss) t };
       points = points f (o .start .number) ss;
     }

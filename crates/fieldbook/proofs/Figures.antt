@@ -134,7 +134,7 @@ by-sum a b = omega (arith, parts-add a b, parts-abs (a +ℤ b), parts-abs a, par
 
 -- with Q and W in quarter mm, and heights printed in mm
 abbrev pub millimetres : ℤ → ℤ → ℤ → Frame
-millimetres start closing total = record { units = pos 4; prints = pos 1; start = start; closing = closing; total = total }
+millimetres start closing total = record { units = pos 4; prints = pos 1; start = start; closure = closing; total = total }
 
 module _ (start closing total : ℤ) (begins : natAbs start ≤ 8999999) (closes : natAbs closing ≤ 20000) (long : pos 1 ≤ℤ total) where
   abbrev f : Frame
