@@ -2,7 +2,7 @@
 //! instruments that reach the limits of document 01, and changed lists.
 
 use crate::mutate::mutate;
-use crate::party::{Party, Style};
+use crate::caller::{Caller, Style};
 use crate::plain::Call;
 use crate::random::Random;
 use crate::rules::{limits, longest_line, SECTIONS_OF_A_LINE, STATIONS_OF_A_RUN};
@@ -57,20 +57,20 @@ pub fn short_book(random: &mut Random, most: usize) -> Vec<Call> {
 /// A line of one kind, not changed.
 pub fn line(random: &mut Random, kind: Kind) -> Vec<Call> {
     let style = style(random, kind);
-    let mut party = Party::new(random, style);
-    party.set_out();
+    let mut caller = Caller::new(random, style);
+    caller.set_out();
     match kind {
-        Kind::Usual => usual_line(&mut party, false),
-        Kind::Loop => usual_line(&mut party, true),
-        Kind::Verdict => line_of_short_sections(&mut party, 18, 25),
-        Kind::Many => line_of_short_sections(&mut party, SECTIONS_OF_A_LINE as i64 - 2, 67),
-        Kind::Long => long_line(&mut party),
-        Kind::Deep => deep_line(&mut party),
-        Kind::Steep => steep_line(&mut party),
+        Kind::Usual => usual_line(&mut caller, false),
+        Kind::Loop => usual_line(&mut caller, true),
+        Kind::Verdict => line_of_short_sections(&mut caller, 18, 25),
+        Kind::Many => line_of_short_sections(&mut caller, SECTIONS_OF_A_LINE as i64 - 2, 67),
+        Kind::Long => long_line(&mut caller),
+        Kind::Deep => deep_line(&mut caller),
+        Kind::Steep => steep_line(&mut caller),
     }
-    party.close();
-    party.afterwards();
-    party.calls
+    caller.close();
+    caller.afterwards();
+    caller.calls
 }
 
 fn style(random: &mut Random, kind: Kind) -> Style {
@@ -108,105 +108,105 @@ fn style(random: &mut Random, kind: Kind) -> Style {
 
 /// An even count of stations, mostly small; the same one throughout a line of
 /// equal sights.
-fn stations(party: &mut Party, usual: i64) -> usize {
-    let count = if party.style.equal {
+fn stations(caller: &mut Caller, usual: i64) -> usize {
+    let count = if caller.style.equal {
         usual
-    } else if party.random.chance(1, 40) {
-        party.random.between(5, 20)
+    } else if caller.random.chance(1, 40) {
+        caller.random.between(5, 20)
     } else {
-        party.random.between(1, usual)
+        caller.random.between(1, usual)
     };
     2 * count as usize
 }
 
 /// One to six sections; a loop comes back to the start number.
-fn usual_line(party: &mut Party, is_loop: bool) {
-    let sections = party.random.between(if is_loop { 2 } else { 1 }, 6);
-    let usual = party.random.between(1, 4);
+fn usual_line(caller: &mut Caller, is_loop: bool) {
+    let sections = caller.random.between(if is_loop { 2 } else { 1 }, 6);
+    let usual = caller.random.between(1, 4);
     for k in 1..=sections {
         let shuts = is_loop && k == sections;
-        let mut count = stations(party, usual);
-        let mut number = party.new_number();
-        if shuts && !party.reading.sections.is_empty() {
-            number = party.opened().start;
-            count = party.stations_to_shut(count);
+        let mut count = stations(caller, usual);
+        let mut number = caller.new_number();
+        if shuts && !caller.reading.sections.is_empty() {
+            number = caller.opened().start;
+            count = caller.stations_to_shut(count);
         }
-        if !party.section(number, count, shuts) && party.random.chance(1, 2) {
-            let again = party.new_number();
-            party.section(again, count, false);
+        if !caller.section(number, count, shuts) && caller.random.chance(1, 2) {
+            let again = caller.new_number();
+            caller.section(again, count, false);
         }
     }
-    if is_loop && party.troubled() {
-        let beyond = party.new_number();
-        party.section(beyond, 2, false);
+    if is_loop && caller.mistaken() {
+        let beyond = caller.new_number();
+        caller.section(beyond, 2, false);
     }
 }
 
 /// Many sections of two stations, one in six lines a loop.
-fn line_of_short_sections(party: &mut Party, fewest: i64, most: i64) {
-    let sections = party.random.between(fewest, most);
-    let is_loop = party.random.chance(1, 6);
+fn line_of_short_sections(caller: &mut Caller, fewest: i64, most: i64) {
+    let sections = caller.random.between(fewest, most);
+    let is_loop = caller.random.chance(1, 6);
     for k in 1..=sections {
         let last = k == sections.min(SECTIONS_OF_A_LINE as i64);
         if is_loop && last {
-            let start = party.opened().start;
-            let count = party.stations_to_shut(2);
-            party.section(start, count, true);
+            let start = caller.opened().start;
+            let count = caller.stations_to_shut(2);
+            caller.section(start, count, true);
         } else {
-            let known = k > SECTIONS_OF_A_LINE as i64 && party.random.chance(1, 2);
-            let number = if known { party.doubtful_number() } else { party.new_number() };
-            party.section(number, 2, false);
+            let known = k > SECTIONS_OF_A_LINE as i64 && caller.random.chance(1, 2);
+            let number = if known { caller.doubtful_number() } else { caller.new_number() };
+            caller.section(number, 2, false);
         }
     }
 }
 
 /// Sections of 200 stations up to a length at, inside or beyond the limit.
-fn long_line(party: &mut Party) {
-    let is_loop = party.random.chance(1, 2);
-    let longest = longest_line(party.opened().order, is_loop) as i64;
-    let off = *party.random.pick(&[0, 0, 0, 2, 2, 1, -1, -2, 40_000, -40_000]);
-    party.style.relief = party.style.relief.min(10);
-    let one_station = 4 * party.table().sight;
+fn long_line(caller: &mut Caller) {
+    let is_loop = caller.random.chance(1, 2);
+    let longest = longest_line(caller.opened().order, is_loop) as i64;
+    let off = *caller.random.pick(&[0, 0, 0, 2, 2, 1, -1, -2, 40_000, -40_000]);
+    caller.style.relief = caller.style.relief.min(10);
+    let one_station = 4 * caller.table().sight;
     for _ in 0..12 {
-        let (_, done) = party.line_sums();
+        let (_, done) = caller.line_sums();
         let rest = longest + off - done;
         let fits = rest <= one_station * STATIONS_OF_A_RUN as i64;
         let needed = (rest.max(1) + one_station - 1) / one_station;
         let count = if fits { 2 * (needed as usize).div_ceil(2) } else { STATIONS_OF_A_RUN };
         let full = done + one_station * (STATIONS_OF_A_RUN as i64) * 97 / 100;
-        party.length = Some(if fits { longest + off } else { full });
+        caller.length = Some(if fits { longest + off } else { full });
         let shuts = fits && is_loop && done > 0;
-        let number = if shuts { party.opened().start } else { party.new_number() };
-        if party.section(number, count, shuts) && fits {
+        let number = if shuts { caller.opened().start } else { caller.new_number() };
+        if caller.section(number, count, shuts) && fits {
             break;
         }
     }
-    party.length = None;
+    caller.length = None;
 }
 
 /// Down below -9,999,999 mm and up again.
-fn deep_line(party: &mut Party) {
-    let sections = party.random.between(18, 31);
+fn deep_line(caller: &mut Caller) {
+    let sections = caller.random.between(18, 31);
     let steep = 5_900 * STATIONS_OF_A_RUN as i64;
     for k in 0..2 * sections {
-        party.climb = Some(if k < sections { -steep } else { steep });
-        let number = party.new_number();
-        party.section(number, STATIONS_OF_A_RUN, false);
+        caller.climb = Some(if k < sections { -steep } else { steep });
+        let number = caller.new_number();
+        caller.section(number, STATIONS_OF_A_RUN, false);
     }
-    party.climb = None;
+    caller.climb = None;
 }
 
 /// Up (or down) all the way, with closings that miss by kilometres.
-fn steep_line(party: &mut Party) {
-    let turn = party.random.sign(1);
-    party.climb = Some(turn * 5_900 * STATIONS_OF_A_RUN as i64);
+fn steep_line(caller: &mut Caller) {
+    let turn = caller.random.sign(1);
+    caller.climb = Some(turn * 5_900 * STATIONS_OF_A_RUN as i64);
     for _ in 0..SECTIONS_OF_A_LINE {
-        let number = party.new_number();
-        party.section(number, STATIONS_OF_A_RUN, false);
+        let number = caller.new_number();
+        caller.section(number, STATIONS_OF_A_RUN, false);
     }
-    party.climb = None;
-    let number = party.reading.section_begin(party.opened().start);
+    caller.climb = None;
+    let number = caller.reading.section_begin(caller.opened().start);
     for height in [-999_999, 8_999_999] {
-        party.put(Call::CloseLine { number, height });
+        caller.put(Call::CloseLine { number, height });
     }
 }

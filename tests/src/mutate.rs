@@ -4,7 +4,7 @@
 use crate::opening::usual;
 use crate::plain::{Call, Opened};
 use crate::random::Random;
-use crate::shoot::CONSTANTS;
+use crate::wished::CONSTANTS;
 
 /// Values around the limits that document 01 names, and extreme ones.
 const ODD_VALUES: [i64; 36] = [

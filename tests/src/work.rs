@@ -2,15 +2,15 @@
 
 use crate::mutate::any_call;
 use crate::opening::opening_of;
-use crate::party::{Goal, Party};
+use crate::caller::{Goal, Caller};
 use crate::plain::Call;
 use crate::rules::STATIONS_OF_A_RUN;
 
-impl Party<'_> {
+impl Caller<'_> {
     /// Opens the line; before and after it something may go wrong.
     pub fn set_out(&mut self) {
         let goal = Goal { stations: 2, sum: 400, twice: 0 };
-        if self.troubled() {
+        if self.mistaken() {
             match self.random.below(3) {
                 0 => {
                     self.good_station(&goal);
@@ -22,7 +22,7 @@ impl Party<'_> {
         for call in opening_of(self.opening_values()) {
             self.put(call);
         }
-        if self.troubled() {
+        if self.mistaken() {
             let again = self.opening_values();
             self.put(Call::Open(again));
         }
@@ -46,7 +46,7 @@ impl Party<'_> {
     /// again.
     pub fn run(&mut self, goal: &Goal) {
         while self.reading.run.len() < goal.stations {
-            if self.troubled() {
+            if self.mistaken() {
                 self.trouble(goal);
             } else if !self.good_station(goal) {
                 return;
@@ -59,7 +59,7 @@ impl Party<'_> {
 
     /// Ends a run on a number, perhaps on a doubtful one before.
     fn end_run(&mut self, number: i64) -> bool {
-        if self.troubled() {
+        if self.mistaken() {
             let doubtful = self.doubtful_number();
             self.put(Call::EndRun(doubtful));
         }
@@ -101,7 +101,7 @@ impl Party<'_> {
 
     /// Closes the line, after up to two closings that may be beyond the limit.
     pub fn close(&mut self) {
-        if self.troubled() {
+        if self.mistaken() {
             let doubtful = self.doubtful_closing();
             self.put(doubtful);
         }

@@ -1,7 +1,7 @@
-//! Aims of a levelling party: sums of sights, D and W at their limits, and
+//! Calls that come to the limits: sums of sights, D and W there, and
 //! figures that fall on a tie.
 
-use crate::party::{Goal, Party};
+use crate::caller::{Goal, Caller};
 use crate::rules;
 
 /// The largest number from 0 on for which a rule still holds.
@@ -17,7 +17,7 @@ fn agrees(d: i64, r: i64) -> bool {
     rules::double_run_agrees(d.into(), r.into())
 }
 
-impl Party<'_> {
+impl Caller<'_> {
     fn third(&self) -> bool {
         self.opened().order == 3
     }

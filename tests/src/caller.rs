@@ -1,12 +1,12 @@
-//! A levelling party: it makes calls and keeps the plain reading of them, so
-//! that it can aim at the limits.
+//! A caller: it makes calls and keeps the plain reading of them, so
+//! that it can come to the limits.
 
 use crate::fraction::narrow;
 use crate::opening::usual;
 use crate::plain::{Answer, Call, Opened, Reading};
 use crate::random::Random;
 use crate::rules;
-use crate::shoot::{faces, other_staff, shoot, Wish, CONSTANTS, STEEPEST};
+use crate::wished::{faces, other_staff, station_of, Wish, CONSTANTS, STEEPEST};
 use crate::station::{accumulated_d, sum_of_heights, sum_of_sights};
 
 /// How a line is levelled: order and instrument, usual sight (dm), usual height
@@ -43,7 +43,7 @@ pub struct Table {
 
 /// `length` is the length of line (half dm) that the section in work is to bring,
 /// `climb` the sum of heights (half mm) of its outward run, where these are set.
-pub struct Party<'r> {
+pub struct Caller<'r> {
     pub random: &'r mut Random,
     pub style: Style,
     pub length: Option<i64>,
@@ -52,10 +52,10 @@ pub struct Party<'r> {
     pub calls: Vec<Call>,
 }
 
-impl<'r> Party<'r> {
-    pub fn new(random: &'r mut Random, style: Style) -> Party<'r> {
+impl<'r> Caller<'r> {
+    pub fn new(random: &'r mut Random, style: Style) -> Caller<'r> {
         let reading = Reading::fresh();
-        Party { random, style, length: None, climb: None, reading, calls: Vec::new() }
+        Caller { random, style, length: None, climb: None, reading, calls: Vec::new() }
     }
 
     /// Makes a call; true if it was taken.
@@ -166,7 +166,7 @@ impl<'r> Party<'r> {
 
     pub fn good_station(&mut self, goal: &Goal) -> bool {
         let wish = self.good_wish(goal);
-        let call = shoot(self.random, &wish);
+        let call = station_of(self.random, &wish);
         self.put(call)
     }
 

@@ -6,7 +6,7 @@ use crate::random::Random;
 /// The two staff constants (document 01, "The station").
 pub const CONSTANTS: [i64; 2] = [4_687, 4_787];
 
-/// The largest height that `shoot` gives a station, in half mm either way.
+/// The largest height that `station_of` gives a station, in half mm either way.
 pub const STEEPEST: i64 = 5_980;
 
 /// The figures a station is to have: the back staff's constant, back and fore
@@ -27,7 +27,7 @@ pub fn other_staff(constant: i64) -> i64 {
 /// A station with these figures. Twice the height is 2 (m back - m fore) less
 /// the faces' difference, so it is met only where the parities allow it;
 /// otherwise it comes out one half mm lower.
-pub fn shoot(random: &mut Random, wish: &Wish) -> Call {
+pub fn station_of(random: &mut Random, wish: &Wish) -> Call {
     let [back_e, fore_e] = wish.faces;
     let rise = (wish.twice + back_e - fore_e).div_euclid(2).clamp(-2_998, 2_998);
     let fore_m = random.between((1 - rise).max(1), (2_999 - rise).min(2_999));
@@ -51,7 +51,7 @@ fn staff(random: &mut Random, constant: i64, sight: i64, m: i64, e: i64) -> [i64
     [l + sight, l, m, constant + m - e]
 }
 
-/// A pair of e whose parity lets `shoot` meet this height, within these limits
+/// A pair of e whose parity lets `station_of` meet this height, within these limits
 /// (document 01's table), at the limits now and then.
 pub fn faces(random: &mut Random, limit: i64, apart: i64, twice: i64) -> [i64; 2] {
     loop {

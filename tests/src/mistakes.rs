@@ -3,14 +3,14 @@
 
 use crate::mutate::any_call;
 use crate::opening::usual;
-use crate::party::{Goal, Party};
+use crate::caller::{Goal, Caller};
 use crate::plain::{Call, Opened};
-use crate::shoot::{other_staff, shoot, Wish};
+use crate::wished::{other_staff, station_of, Wish};
 use crate::station::{BLACK, LOWER, RED, UPPER};
 
-impl Party<'_> {
+impl Caller<'_> {
     /// Whether something goes wrong now.
-    pub fn troubled(&mut self) -> bool {
+    pub fn mistaken(&mut self) -> bool {
         self.style.trouble != 0 && self.random.chance(1, self.style.trouble)
     }
 
@@ -86,7 +86,7 @@ impl Party<'_> {
         let mut wish = self.good_wish(goal);
         let which = self.random.below(5);
         self.press(&mut wish, which, 0);
-        shoot(self.random, &wish)
+        station_of(self.random, &wish)
     }
 
     /// A station with one to three things wrong, mostly one.
@@ -102,7 +102,7 @@ impl Party<'_> {
                 self.press(&mut wish, kind, 1);
             }
         }
-        let mut call = shoot(self.random, &wish);
+        let mut call = station_of(self.random, &wish);
         for &kind in kinds.iter().filter(|&&kind| kind > 5) {
             self.misread(&mut call, kind);
         }
