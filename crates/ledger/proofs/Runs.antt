@@ -157,7 +157,7 @@ run-fits u h =
     rw (
       le-leb (u .count) 200 (h .count),
       within-true (u .height) mostG (omega (arith, h .height, h .count)),
-      between-true {low = pos 0} {x = u .sights} {high = pos mostS} (omega (ints, h .low)) (omega (ints, h .high, h .count)),
+      between-true {low = pos (u .count)} {x = u .sights} {high = pos mostS} (h .low) (omega (ints, h .high, h .count)),
       within-true (u .difference) mostDifference (omega (arith, h .difference)),
     )
 

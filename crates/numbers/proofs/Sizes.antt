@@ -59,10 +59,10 @@ pub parity-sub : (a b : ℤ) → (natAbs (a -ℤ b) + natAbs a + natAbs b) % 2 �
 parity-sub a b = omega (arith, parts-sub a b, parts-abs (a -ℤ b), parts-abs a, parts-abs b)
 
 -- a number between 0 and k, and one within k
-pub between-size : (x : ℤ) (k : ℕ) → between (pos 0) x (pos k) ≡ true → natAbs x ≤ k
-between-size x k e =
-    let low : pos 0 ≤ℤ x = test-le (and-l (leZ (pos 0) x) (leZ x (pos k)) e) in
-    let high : x ≤ℤ pos k = test-le (and-r (leZ (pos 0) x) (leZ x (pos k)) e) in
+pub between-size : (n : ℕ) (x : ℤ) (k : ℕ) → between (pos n) x (pos k) ≡ true → natAbs x ≤ k
+between-size n x k e =
+    let low : pos n ≤ℤ x = test-le (and-l (leZ (pos n) x) (leZ x (pos k)) e) in
+    let high : x ≤ℤ pos k = test-le (and-r (leZ (pos n) x) (leZ x (pos k)) e) in
     omega (ints, parts-abs x)
 
 pub within-size : (x : ℤ) (k : ℕ) → within x k ≡ true → natAbs x ≤ k

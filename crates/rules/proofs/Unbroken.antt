@@ -25,12 +25,12 @@ pub small-run : (u : Run) → runFits u ≡ true → SmallRun u
 small-run u e =
     let n = leb (u .count) 200 in
     let h = within (u .height) mostG in
-    let s = between (pos 0) (u .sights) (pos mostS) in
+    let s = between (pos (u .count)) (u .sights) (pos mostS) in
     let d = within (u .difference) mostDifference in
     record {
       count = leb→le (u .count) 200 (holds (and-l n h (and-l (n && h) s (and-l (n && h && s) d e))));
       height = within-size (u .height) mostG (and-r n h (and-l (n && h) s (and-l (n && h && s) d e)));
-      sights = between-size (u .sights) mostS (and-r (n && h) s (and-l (n && h && s) d e));
+      sights = between-size (u .count) (u .sights) mostS (and-r (n && h) s (and-l (n && h && s) d e));
       difference = within-size (u .difference) mostDifference (and-r (n && h && s) d e);
     }
 

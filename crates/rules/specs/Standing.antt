@@ -116,8 +116,9 @@ abbrev pub mostDifference : ℕ
 mostDifference = 1000000
 
 -- Document 01 leaves this test to the program. It keeps every later sum in 64 bits, and holds of no book that calls from a fresh one leave.
+-- The sights of a run add up to a decimetre a station at least, so that no section has a length of 0.
 abbrev pub runFits : Run → Bool
-runFits u = leb (u .count) 200 && within (u .height) mostG && between (pos 0) (u .sights) (pos mostS) && within (u .difference) mostDifference
+runFits u = leb (u .count) 200 && within (u .height) mostG && between (pos (u .count)) (u .sights) (pos mostS) && within (u .difference) mostDifference
 
 -- a waiting run beside 64 sections would make the 65th
 abbrev pub waitingBroken : Waiting → ℕ → Bool

@@ -84,9 +84,12 @@ pub(crate) fn began_at(start: i64, count: usize, numbers: &[i64; 64]) -> i64
 fn run_fits(u: Run) -> bool
     ensures { λ r. ⌜ r ≡ runFits u ⌝ }
 {
-    (u.count <= 200)
-        & (magnitude(u.height) <= 25000000)
-        & ((0 <= u.sights) & (u.sights <= 600000))
+    if 200 < u.count {
+        return false;
+    }
+    let count = u.count as i64;
+    (magnitude(u.height) <= 25000000)
+        & ((count <= u.sights) & (u.sights <= 600000))
         & (magnitude(u.difference) <= 1000000)
 }
 

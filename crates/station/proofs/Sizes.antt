@@ -28,10 +28,10 @@ small-staff s k e =
     let r = between (pos 0) (s .red) (pos 7999) in
     record {
       constant = k;
-      upper = between-size (s .upper) 3000 (and-l u l (and-l (u && l) m (and-l (u && l && m) r e)));
-      lower = between-size (s .lower) 3000 (and-r u l (and-l (u && l) m (and-l (u && l && m) r e)));
-      black = between-size (s .black) 3000 (and-r (u && l) m (and-l (u && l && m) r e));
-      red = between-size (s .red) 7999 (and-r (u && l && m) r e);
+      upper = between-size 0 (s .upper) 3000 (and-l u l (and-l (u && l) m (and-l (u && l && m) r e)));
+      lower = between-size 0 (s .lower) 3000 (and-r u l (and-l (u && l) m (and-l (u && l && m) r e)));
+      black = between-size 0 (s .black) 3000 (and-r (u && l) m (and-l (u && l && m) r e));
+      red = between-size 0 (s .red) 7999 (and-r (u && l && m) r e);
     }
 
 -- of two constants that pair, one is 4,687 and the other 4,787
