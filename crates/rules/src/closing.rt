@@ -8,7 +8,6 @@ ghost use Rattle.rules.specs.Standing.{standingIn, isShut};
 ghost use Rattle.rules.specs.Rules.{close-line, broken, lengthLimit, totalTests, lineTests, figuresTests, inputTests, stateTests, bookRefusal};
 use super::Line;
 use super::refusals::number_in_range;
-use super::refusals::pick;
 use super::state::began_at;
 use super::state::is_closed;
 use super::state::is_open;
@@ -21,6 +20,7 @@ use adjust::Totals;
 use adjust::terms::Terms;
 use adjust::terms::terms_of;
 use roots::limits::within;
+use station::pick;
 
 // The longest line, or the longest loop, in half dm.
 fn length_limit(terms: Terms, shut: bool) -> i64

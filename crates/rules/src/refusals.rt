@@ -22,13 +22,7 @@ use adjust::terms::Root;
 use adjust::terms::terms_of;
 use roots::limits::within;
 use station::Figures;
-
-// code where t holds, rest otherwise.
-pub(crate) fn pick(t: bool, code: u8, rest: u8) -> u8
-    ensures { λ r. ⌜ r ≡ cond t code rest ⌝ }
-{
-    if t { code } else { rest }
-}
+use station::pick;
 
 pub(crate) fn number_in_range(n: i64) -> bool
     ensures { λ r. ⌜ r ≡ numberInRange n ⌝ }

@@ -51,7 +51,7 @@ pub enum Readings {
 }
 
 // code where t holds, rest otherwise.
-fn pick(t: bool, code: u8, rest: u8) -> u8
+pub fn pick(t: bool, code: u8, rest: u8) -> u8
     ensures { λ r. ⌜ r ≡ cond t code rest ⌝ }
 {
     if t { code } else { rest }
