@@ -54,8 +54,13 @@ abbrev pub callsOf : List Entry → List Call
 callsOf [] = []
 callsOf (e ∷ es) = callsIn e ++ callsOf es
 
--- the numbers of the entries that ask for a call
+-- of a number for each entry, those of the entries that ask for a call
+abbrev pub ofCalls : List Entry → List ℕ → List ℕ
+ofCalls [] ns = []
+ofCalls (asks c ∷ es) [] = []
+ofCalls (asks c ∷ es) (n ∷ ns) = n ∷ ofCalls es ns
+ofCalls (refused m ∷ es) [] = []
+ofCalls (refused m ∷ es) (n ∷ ns) = ofCalls es ns
+
 abbrev pub callNumbers : Reading → List Entry → List ℕ
-callNumbers r [] = []
-callNumbers r (asks c ∷ es) = refusal r c ∷ callNumbers (next r c) es
-callNumbers r (refused n ∷ es) = callNumbers r es
+callNumbers r es = ofCalls es (entryRefusals r es)
