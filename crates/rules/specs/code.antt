@@ -1,3 +1,3 @@
--- What serves the code and its proofs only: a reader of the claims may leave it out.
+-- What only contracts and proofs use: no other file of specs/ does.
 pub mod Seen
 pub mod Bounds

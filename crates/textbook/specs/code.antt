@@ -1,2 +1,2 @@
--- What serves the code and its proofs only: a reader of the claims may leave it out.
+-- What only contracts and proofs use: no other file of specs/ does.
 pub mod State

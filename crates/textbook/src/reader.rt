@@ -26,7 +26,8 @@ fn read_rest<'a>(r: Reader<'a>) -> State
     read_from(r.text, r.line)
 }
 
-// What a text leaves: the plain reading of its lines.
+// What a text leaves: the plain reading of its lines. Refusal numbers of lines past 777 are left out: who reads longer texts tests 9 first, as `reduce_text`
+// does.
 pub fn read_text(text: &[u8]) -> State
     ensures { λ r. ⌜ r ≡ textState (lines (now (text .entry))) ⌝ }
 {
