@@ -1,6 +1,6 @@
 -- What callers cite: Lines, the adjustment's theorem in any units; Refused and Legs, the adjustment call; Lists, Holding, Lent, Sized and Bounded, sections in arrays
 -- and the sizes of their figures; Orders, the table of orders; Walks, steps of proofs by hand. LegArray serves the adjustment call.
-pub mod Orders
+pub mod Classes
 pub mod Lines
 pub mod Lists
 pub mod Bounded

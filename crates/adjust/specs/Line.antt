@@ -103,7 +103,7 @@ pub record Closing : Type 0 where
 abbrev pub closing : Opening → ℤ → List Section → Closing
 closing o end ss =
     let f : Frame = frameOf (o .start .height) end ss in
-    let terms : Terms = termsOf (o .order) in
+    let terms : Terms = termsOf (o .class) in
     let t : ℤ = accidentalSum terms ss in
     record {
       -- W as printed, in the corrections' unit

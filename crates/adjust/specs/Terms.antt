@@ -1,12 +1,18 @@
--- What an order of a line sets (document 01, 'Runs, sections and the standing list' and 'Closure, corrections, heights'): a row for each order. `Terms` in the code
--- says what each field is, and its unit; 20,000 half dm are a kilometre. Nothing else in the rules goes by the order, but a station's limits (`limitsOf`).
+-- What a class of line sets (document 01, 'Runs, sections and the standing list' and 'Closure, corrections, heights'): a row for each class. `Terms` in the code
+-- says what each field is, and its unit; 20,000 half dm are a kilometre. Nothing else in the rules goes by the class, but a station's limits (`limitsOf`), by its order.
 use mathlib.Core.Bool.{true, false}
 use lib.IntN.{pos}
 use Rattle.station.specs.declared.Order.{Order}
-use Rattle.station.specs.declared.Order.the-variants.{Third, Fourth}
+use Rattle.station.specs.declared.Order.the-variants as Order
+use Rattle.adjust.specs.declared.terms.Class.{Class}
+use Rattle.adjust.specs.declared.terms.Class.the-variants.{Third, Fourth}
 use Rattle.adjust.specs.declared.terms.Terms.{Terms}
 
-abbrev pub termsOf : Order → Terms
+abbrev pub orderOf : Class → Order
+orderOf Third = Order.Third
+orderOf Fourth = Order.Fourth
+
+abbrev pub termsOf : Class → Terms
 -- levelled out and back; D and W within 12 √km; L at most 150 km, for a loop 200 km; T at most 3,600 × n
 termsOf Third =
     record {

@@ -16,7 +16,7 @@ pub mod table;
 pub mod terms;
 
 use station::Instrument;
-use station::Order;
+use terms::Class;
 
 pub struct Benchmark {
     pub number: i64,
@@ -25,7 +25,7 @@ pub struct Benchmark {
 
 // What a line is opened with.
 pub struct Opening {
-    pub order: Order,
+    pub class: Class,
     pub instrument: Instrument,
     pub start: Benchmark,
 }
@@ -125,9 +125,9 @@ fn closing_of(opening: Opening, end: i64, s: Sections) -> LineFigures
     requires { ⌜ Between (opening .start .height) end s × Fitted s ⌝ }
     ensures { λ r. ⌜ r ≡ adjustedOf (closing opening end (sectionsOf s)) ⌝ }
 {
-    let order = opening.order;
+    let class = opening.class;
     let start = opening.start;
-    let terms = terms::terms_of(order);
+    let terms = terms::terms_of(class);
     let t = sums::totals_between(start.height, end, s);
     let accidental = accidental::accidental_sum(terms, s);
     let verdict = accidental::verdict_of(terms, s.count, accidental);

@@ -1,7 +1,13 @@
-// What an order of a line sets: the one table by which the rules go, but for a station's limits (`station::judge`).
+// The classes of line, and what each sets: the one table by which the rules go, but for a station's limits (`station::judge`), which are those of its order.
 ghost use mathlib.Core.Path.{_≡_};
-ghost use Rattle.adjust.specs.Terms.{termsOf};
+ghost use Rattle.adjust.specs.Terms.{orderOf, termsOf};
 use station::Order;
+
+// What a line is opened as.
+pub enum Class {
+    Third,
+    Fourth,
+}
 
 // A root limit: x is within the root of l where a × x² ≤ b × l.
 pub struct Root {
@@ -24,12 +30,22 @@ pub struct Terms {
     pub accidental: i64,
 }
 
-// The table.
-pub fn terms_of(order: Order) -> Terms
-    ensures { λ r. ⌜ r ≡ termsOf order ⌝ }
+// The order by whose limits the stations of a line are judged.
+pub fn order_of(class: Class) -> Order
+    ensures { λ r. ⌜ r ≡ orderOf class ⌝ }
 {
-    match order {
-        Order::Third => Terms {
+    match class {
+        Class::Third => Order::Third,
+        Class::Fourth => Order::Fourth,
+    }
+}
+
+// The table.
+pub fn terms_of(class: Class) -> Terms
+    ensures { λ r. ⌜ r ≡ termsOf class ⌝ }
+{
+    match class {
+        Class::Third => Terms {
             double: true,
             apart: Root { a: 625, b: 18 },
             closing: Root { a: 625, b: 72 },
@@ -38,7 +54,7 @@ pub fn terms_of(order: Order) -> Terms
             accidental: 3600,
         },
         // sections of one run have no D and no T: `apart` is never looked at, and there is no verdict
-        Order::Fourth => Terms {
+        Class::Fourth => Terms {
             double: false,
             apart: Root { a: 625, b: 18 },
             closing: Root { a: 25, b: 8 },

@@ -77,7 +77,7 @@ endedBy l number w t =
     (λ outward run. withSection (record { line = l; sections = [] }) (bothWays outward run (l .present))) in
     record { number = 0; line = v .line; finishes = not (isEmpty (v .sections)); section = getD (v .sections) 0 noSection }
 
-pub as-effect : (l : Line) (number : ℤ) {w : Waiting} {t : Bool} → l .waiting ≡ w → termsOf (l .opening .order) .double ≡ t → endedBy l number w t ≡ effectOf l (end-run number)
+pub as-effect : (l : Line) (number : ℤ) {w : Waiting} {t : Bool} → l .waiting ≡ w → termsOf (l .opening .class) .double ≡ t → endedBy l number w t ≡ effectOf l (end-run number)
 unfolding effectOf
 as-effect l number e f = λ i. endedBy l number (sym e i) (sym f i)
 
@@ -120,7 +120,7 @@ module _ (b : Book) (w : Whole (b .sections)) where
       line-alone (taken (standingOf b) c) (whole-line b c e .few) (fresh-none (b .line) ss (line-whole (standingOf b) c e) fresh)
   effect (station kb kf readings) e = line-alone (taken (standingOf b) (station kb kf readings)) (whole-line b (station kb kf readings) e .few) refl
   effect (end-run number) e =
-      ended number (b .line .waiting) (termsOf (b .line .opening .order) .double) (room (b .line .waiting) (whole-line b (end-run number) e .waiting) (book-fails (standingOf b) (end-run number) e 31))
+      ended number (b .line .waiting) (termsOf (b .line .opening .class) .double) (room (b .line .waiting) (whole-line b (end-run number) e .waiting) (book-fails (standingOf b) (end-run number) e 31))
   effect drop-run e = line-alone (taken (standingOf b) drop-run) (whole-line b drop-run e .few) refl
   effect drop-section e = line-alone (taken (standingOf b) drop-section) (whole-line b drop-section e .few) refl
   effect (close-line number end) e = line-alone (taken (standingOf b) (close-line number end)) (whole-line b (close-line number end) e .few) refl

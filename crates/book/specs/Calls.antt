@@ -9,7 +9,7 @@ use lib.Dec.{eqb}
 use lib.IntN.{ℤ, pos}
 use Rattle.numbers.specs.Whole.{filled}
 use Rattle.numbers.specs.Tables.{firstOf}
-use Rattle.station.specs.declared.Order.the-variants.{Fourth}
+use Rattle.adjust.specs.declared.terms.Class.the-variants.{Fourth}
 use Rattle.station.specs.declared.Instrument.the-variants.{Ds3}
 use Rattle.adjust.specs.declared.Summary.{Summary}
 use Rattle.adjust.specs.declared.Point.{Point}
@@ -34,7 +34,7 @@ freshBook =
       line =
           record {
             stage = Fresh;
-            opening = record { order = Fourth; instrument = Ds3; start = record { number = pos 0; height = pos 0 } };
+            opening = record { class = Fourth; instrument = Ds3; start = record { number = pos 0; height = pos 0 } };
             end = pos 0;
             waiting = Nothing;
             present = noRun;

@@ -4,7 +4,7 @@ ghost use mathlib.Core.Bool.{true};
 ghost use Rattle.station.specs.code.Bounds.{Small};
 ghost use Rattle.rules.specs.declared.Waiting.the-variants.{Nothing};
 ghost use Rattle.rules.specs.Standing.{noRun, withStation, oneWay, bothWays};
-ghost use Rattle.rules.specs.Rules.{end-run, orderOf, instrumentOf, openingOf, withRuns, closedAt};
+ghost use Rattle.rules.specs.Rules.{end-run, classOf, instrumentOf, openingOf, withRuns, closedAt};
 ghost use Rattle.rules.specs.Rules as Rules;
 ghost use Rattle.rules.specs.code.Bounds.{SmallRun, SmallRuns};
 ghost use Rattle.book.specs.code.Changes.{effectOf};
@@ -13,6 +13,7 @@ use super::decisions::line_only;
 use adjust::Benchmark;
 use adjust::Opening;
 use adjust::Section;
+use adjust::terms::Class;
 use adjust::terms::terms_of;
 use rules::Line;
 use rules::Run;
@@ -20,7 +21,6 @@ use rules::Stage;
 use rules::Waiting;
 use station::Figures;
 use station::Instrument;
-use station::Order;
 
 fn no_run() -> Run
     ensures { λ r. ⌜ r ≡ noRun ⌝ }
@@ -51,10 +51,10 @@ fn with_runs(line: Line, waiting: Waiting, present: Run) -> Line
 
 // ---- open
 
-fn order_of(n: i64) -> Order
-    ensures { λ r. ⌜ r ≡ orderOf n ⌝ }
+fn class_of(n: i64) -> Class
+    ensures { λ r. ⌜ r ≡ classOf n ⌝ }
 {
-    if n == 3 { Order::Third } else { Order::Fourth }
+    if n == 3 { Class::Third } else { Class::Fourth }
 }
 
 fn instrument_of(n: i64) -> Instrument
@@ -75,7 +75,7 @@ pub(crate) fn opening_of(order: i64, instrument: i64, number: i64, height: i64) 
         height: height,
     };
     Opening {
-        order: order_of(order),
+        class: class_of(order),
         instrument: instrument_of(instrument),
         start: start,
     }
@@ -157,9 +157,9 @@ fn outward_ended(line: Line, number: i64) -> Change
     ensures { λ r. ⌜ r ≡ effectOf line (end-run number) ⌝ }
 {
     let opening = line.opening;
-    let order = opening.order;
+    let class = opening.class;
     let present = line.present;
-    let terms = terms_of(order);
+    let terms = terms_of(class);
     if terms.double {
         return line_only(
             0,

@@ -8,13 +8,13 @@ use adjust::Point;
 use adjust::Section;
 use adjust::Sections;
 use adjust::Summary;
+use adjust::terms::Class;
 use rules::Book;
 use rules::Line;
 use rules::Run;
 use rules::Stage;
 use rules::Waiting;
 use station::Instrument;
-use station::Order;
 
 pub mod calls;
 pub mod decisions;
@@ -77,7 +77,7 @@ pub fn fresh() -> Book
         height: 0,
     };
     let opening = Opening {
-        order: Order::Fourth,
+        class: Class::Fourth,
         instrument: Instrument::Ds3,
         start: start,
     };

@@ -17,8 +17,8 @@ use Rattle.numbers.proofs.Sizes.{abs-add, abs-sub, abs-mul, square-abs, within-
 use Rattle.roots.specs.Limit.{isWithin}
 use Rattle.roots.proofs.LimitLaws.{within-le}
 use Rattle.roots.proofs.RoundLaws.{round-mono, round-exact}
-use Rattle.station.specs.declared.Order.{Order}
-use Rattle.station.specs.declared.Order.the-variants.{Third, Fourth}
+use Rattle.adjust.specs.declared.terms.Class.{Class}
+use Rattle.adjust.specs.declared.terms.Class.the-variants.{Third, Fourth}
 use Rattle.adjust.specs.declared.Section.{Section}
 use Rattle.adjust.specs.Line.{Frame, exactTop, accidental, accidentalSum, verdict}
 use Rattle.adjust.proofs.Lists.{Fit, fit-head, fit-tail}
@@ -35,11 +35,11 @@ pub record Narrow (x : Section) : Type 0 where
   pub discrepancy : isWithin 625 (x .discrepancy) 18 (x .distance) ≡ true
 
 -- D has one limit
-apart : (o : Order) (x : Section) → discrepancyWithin (termsOf o .apart) x ≡ isWithin 625 (x .discrepancy) 18 (x .distance)
+apart : (o : Class) (x : Section) → discrepancyWithin (termsOf o .apart) x ≡ isWithin 625 (x .discrepancy) 18 (x .distance)
 apart Third x = refl
 apart Fourth x = refl
 
-pub narrow-head : (o : Order) (x : Section) (xs : List Section) → All (narrow (termsOf o)) (x ∷ xs) → Narrow x
+pub narrow-head : (o : Class) (x : Section) (xs : List Section) → All (narrow (termsOf o)) (x ∷ xs) → Narrow x
 narrow-head o x xs e =
     let n = within (x .number) 9999 in
     let q = within (x .height) 4802400 in
@@ -85,7 +85,7 @@ accidental-small x long e =
           parts-abs (x .distance),
         )
 
-accidentals-small : (o : Order) (ss : List Section) → Fit ss → All (narrow (termsOf o)) ss → natAbs (sum (map accidental ss)) ≤ 14400 * length ss
+accidentals-small : (o : Class) (ss : List Section) → Fit ss → All (narrow (termsOf o)) ss → natAbs (sum (map accidental ss)) ≤ 14400 * length ss
 accidentals-small o [] f n = omega arith
 accidentals-small o (x ∷ xs) f n =
     omega (
@@ -97,7 +97,7 @@ accidentals-small o (x ∷ xs) f n =
 
 -- ---- the line
 
-pub sum-small : (o : Order) (ss : List Section) → Fit ss → All (narrow (termsOf o)) ss → natAbs (accidentalSum (termsOf o) ss) ≤ 14400 * length ss
+pub sum-small : (o : Class) (ss : List Section) → Fit ss → All (narrow (termsOf o)) ss → natAbs (accidentalSum (termsOf o) ss) ≤ 14400 * length ss
 sum-small Third ss f n = accidentals-small Third ss f n
 sum-small Fourth ss f n = omega arith
 
@@ -109,14 +109,14 @@ verdict-small t n z = go (not (t .double) || ltb n 20) (leZ z (t .accidental *�
     go false true = omega arith
     go false false = omega arith
 
-pub length-small : (o : Order) (loop : Bool) → lengthLimit (termsOf o) loop ≤ℤ pos 4000000
+pub length-small : (o : Class) (loop : Bool) → lengthLimit (termsOf o) loop ≤ℤ pos 4000000
 length-small Third true = omega ints
 length-small Third false = omega ints
 length-small Fourth true = omega ints
 length-small Fourth false = omega ints
 
 -- W, by the tests 35 and 36
-pub closure-small : (o : Order) (w l : ℤ) → closureWithin (termsOf o) w l ≡ true → l ≤ℤ pos 4000000 → natAbs w ≤ 20000
+pub closure-small : (o : Class) (w l : ℤ) → closureWithin (termsOf o) w l ≡ true → l ≤ℤ pos 4000000 → natAbs w ≤ 20000
 closure-small Third w l e h = root-size 625 w 72 l 20000 (omega arith) e (omega (ints, parts-times 72 l))
 closure-small Fourth w l e h = root-size 25 w 8 l 20000 (omega arith) e (omega (ints, parts-times 8 l))
 

@@ -9,8 +9,8 @@ use lib.Dec.{eqb, eqb→eq}
 use lib.ListN.{length, length-append}
 use lib.IntN.{ℤ}
 use Rattle.numbers.proofs.Tests.{by-test, no-true, not-false}
-use Rattle.station.specs.declared.Order.{Order}
-use Rattle.station.specs.declared.Order.the-variants.{Third, Fourth}
+use Rattle.adjust.specs.declared.terms.Class.{Class}
+use Rattle.adjust.specs.declared.terms.Class.the-variants.{Third, Fourth}
 use Rattle.station.specs.Station.{stationOf}
 use Rattle.rules.specs.declared.Stage.{Stage}
 use Rattle.rules.specs.declared.Stage.the-variants.{Fresh, Open, Closed}
@@ -42,11 +42,11 @@ two-at-least zero e = no-true (sym e)
 two-at-least (suc zero) e = no-true (sym e)
 two-at-least (suc (suc n)) e = omega arith
 
-ended : (r : Reading) (order : Order) (waiting : Option Awaited) (n : ℤ) → 2 ≤ length (r .present)
-    → least (runEnded (recast r order waiting) n) ≤ least (recast r order waiting) + 1
+ended : (r : Reading) (class : Class) (waiting : Option Awaited) (n : ℤ) → 2 ≤ length (r .present)
+    → least (runEnded (recast r class waiting) n) ≤ least (recast r class waiting) + 1
 ended r Third none n h = omega arith
 ended r Fourth none n h = omega (arith, length-append (r .sections) (record { number = n; outward = r .present; back = none } ∷ []))
-ended r order (some w) n h = omega (arith, length-append (r .sections) (record { number = w .number; outward = w .outward; back = some (r .present) } ∷ []))
+ended r class (some w) n h = omega (arith, length-append (r .sections) (record { number = w .number; outward = w .outward; back = some (r .present) } ∷ []))
 
 open-lines : (s : Stage) → isOpen s ≡ true → stageLines s ≡ 1
 open-lines Fresh e = no-true e
@@ -57,7 +57,7 @@ taken-least : (r : Reading) (c : Call) → refusal r c ≡ 0 → least (taken r 
 taken-least r (open-line order instrument number height) e = omega arith
 taken-least r (station kb kf readings) e = omega (arith, length-append (r .present) (stationOf kb kf readings ∷ []))
 taken-least r (end-run number) e =
-    ended r (r .opening .order) (r .waiting) number (two-at-least (length (r .present)) (fails (standing r) (end-run number) e 29))
+    ended r (r .opening .class) (r .waiting) number (two-at-least (length (r .present)) (fails (standing r) (end-run number) e 29))
 taken-least r drop-run e = omega arith
 taken-least r drop-section e = omega arith
 taken-least r (close-line number end) e =

@@ -12,7 +12,7 @@ use Rattle.numbers.proofs.Tests.{no-true, not-false}
 use Rattle.numbers.proofs.All.{All, all-cons, all-tail}
 use Rattle.numbers.proofs.Parts.{ints, parts-add, parts-abs, test-le}
 use Rattle.numbers.proofs.Sizes.{abs-add, abs-mul}
-use Rattle.station.specs.declared.Order.{Order}
+use Rattle.adjust.specs.declared.terms.Class.{Class}
 use Rattle.adjust.specs.declared.Point.{Point}
 use Rattle.adjust.specs.declared.Summary.{Summary}
 use Rattle.adjust.specs.declared.Section.{Section}
@@ -71,7 +71,7 @@ point-fits p n d c h =
 
 -- ---- the points of a line
 
-module _ (o : Order) (start closed total : ℤ) (begins : natAbs start ≤ 8999999) (closes : natAbs closed ≤ 20000) (some : pos 1 ≤ℤ total) (short : total ≤ℤ pos 4000000) where
+module _ (o : Class) (start closed total : ℤ) (begins : natAbs start ≤ 8999999) (closes : natAbs closed ≤ 20000) (some : pos 1 ≤ℤ total) (short : total ≤ℤ pos 4000000) where
   abbrev f : Frame
   f = millimetres start closed total
 
@@ -102,8 +102,8 @@ module _ (o : Order) (start closed total : ℤ) (begins : natAbs start ≤ 89999
 -- ---- a closing that is taken
 
 module _ (v : Standing) (number end : ℤ) (e : refusal v (close-line number end) ≡ 0) (i : Kept (taken v (close-line number end))) where
-  abbrev order : Order
-  order = v .line .opening .order
+  abbrev class : Class
+  class = v .line .opening .class
 
   abbrev start : ℤ
   start = v .line .opening .start .height
@@ -128,11 +128,11 @@ module _ (v : Standing) (number end : ℤ) (e : refusal v (close-line number end
 
   short : l ≤ℤ pos 4000000
   short =
-      let limit : l ≤ℤ lengthLimit (termsOf order) (isShut v) = test-le (not-false (leZ l (lengthLimit (termsOf order) (isShut v))) (fails v (close-line number end) e 35)) in
-      omega (ints, length-small order (isShut v))
+      let limit : l ≤ℤ lengthLimit (termsOf class) (isShut v) = test-le (not-false (leZ l (lengthLimit (termsOf class) (isShut v))) (fails v (close-line number end) e 35)) in
+      omega (ints, length-small class (isShut v))
 
   small : natAbs w ≤ 20000
-  small = closure-small order w l (not-false (closureWithin (termsOf order) w l) (fails v (close-line number end) e 36)) short
+  small = closure-small class w l (not-false (closureWithin (termsOf class) w l) (fails v (close-line number end) e 36)) short
 
   begins : natAbs start ≤ 8999999
   begins = in-range start (i .start)
@@ -140,13 +140,13 @@ module _ (v : Standing) (number end : ℤ) (e : refusal v (close-line number end
   summary-fits : closedFits (gave .summary) ≡ true
   summary-fits =
       closed-fits (gave .summary) (omega (arith, small, abs-mul (pos 1) w)) (omega (ints, short, some, parts-abs l)) (i .few)
-      (omega (arith, sum-small order ss fit (i .narrow-sections), i .few)) (verdict-small (termsOf order) (length ss) (accidentalSum (termsOf order) ss))
+      (omega (arith, sum-small class ss fit (i .narrow-sections), i .few)) (verdict-small (termsOf class) (length ss) (accidentalSum (termsOf class) ss))
 
   all-fit : All pointFits (gave .points)
   all-fit =
       all-cons pointFits _ (sectionPoints (frameOf start end ss) ss)
       (point-fits _ (omega (arith, i .number)) (omega arith) (omega arith) (omega (arith, begins, abs-mul (pos 1) start)))
-      (points-fit order start w l begins small some short (pos 0) (pos 0) (pos 1 *ℤ start) ss fit (i .narrow-sections) (omega (arith, i .few)) (omega ints)
+      (points-fit class start w l begins small some short (pos 0) (pos 0) (pos 1 *ℤ start) ss fit (i .narrow-sections) (omega (arith, i .few)) (omega ints)
       (omega (ints, parts-add (pos 0) l)) (line-sound start end ss some .near))
 
 -- a closing is on a number and a height

@@ -10,8 +10,8 @@ use Rattle.numbers.specs.Whole.{anyOf}
 use Rattle.numbers.proofs.Tests.{by-test, holds, no-true}
 use Rattle.numbers.proofs.Tables.{met}
 use Rattle.numbers.proofs.Ring.{one-mulℤ}
-use Rattle.station.specs.declared.Order.{Order}
-use Rattle.station.specs.declared.Order.the-variants.{Third, Fourth}
+use Rattle.adjust.specs.declared.terms.Class.{Class}
+use Rattle.adjust.specs.declared.terms.Class.the-variants.{Third, Fourth}
 use Rattle.adjust.specs.Line.{Closing, closing, lineLength}
 use Rattle.adjust.proofs.Lines.{line-sound}
 use Rattle.rules.specs.declared.Stage.{Stage}
@@ -97,16 +97,16 @@ behind c cs r e f =
       stays = f .stays;
     }
 
-ended-stage : (r : Reading) (order : Order) (waiting : Option Awaited) (n : ℤ) → runEnded (recast r order waiting) n .stage ≡ r .stage
+ended-stage : (r : Reading) (class : Class) (waiting : Option Awaited) (n : ℤ) → runEnded (recast r class waiting) n .stage ≡ r .stage
 ended-stage r Third none n = refl
 ended-stage r Fourth none n = refl
-ended-stage r order (some w) n = refl
+ended-stage r class (some w) n = refl
 
 -- another call leaves it as far as it was, or open
 stays-open : (r : Reading) (c : Call) → isClosing c ≡ false → NotClosed r → NotClosed (taken r c)
 stays-open r (open-line o i m h) e n = open-not-closed
 stays-open r (station kb kf m) e n = n
-stays-open r (end-run m) e n = λ k. n (sym (ended-stage r (r .opening .order) (r .waiting) m) ∙ k)
+stays-open r (end-run m) e n = λ k. n (sym (ended-stage r (r .opening .class) (r .waiting) m) ∙ k)
 stays-open r drop-run e n = n
 stays-open r drop-section e n = n
 stays-open r (close-line m h) e n = no-true (sym e)

@@ -5,8 +5,8 @@ use mathlib.Core.Option.{Option, none, some}
 use lib.ListN.{length-append}
 use lib.IntN.{ℤ, pos, _+ℤ_, +ℤ-assoc, +ℤ-comm}
 use Rattle.numbers.specs.Whole.{sum, lastOf}
-use Rattle.station.specs.declared.Order.{Order}
-use Rattle.station.specs.declared.Order.the-variants.{Third, Fourth}
+use Rattle.adjust.specs.declared.terms.Class.{Class}
+use Rattle.adjust.specs.declared.terms.Class.the-variants.{Third, Fourth}
 use Rattle.station.specs.Station.{Station, stationOf, figuresOf, sights, sightDifference, twiceHeight}
 use Rattle.adjust.specs.declared.Section.{Section}
 use Rattle.rules.specs.declared.Waiting.the-variants.{Nothing}
@@ -16,13 +16,13 @@ use Rattle.rules.specs.Rules.{Call, open-line, station, end-run, drop-run, drop
 use Rattle.ledger.specs.Plain as Plain
 use Rattle.ledger.specs.Plain.{Reading, Levelled, Awaited, runOf, sectionOf, standing, withLists}
 
--- a reading with the order and the waiting list given: the end of a run goes by these two, so a proof goes by their cases and is then used
--- at `recast r (r .opening .order) (r .waiting)`, which is r
-abbrev pub recast : Reading → Order → Option Awaited → Reading
-recast r order waiting =
+-- a reading with the class and the waiting list given: the end of a run goes by these two, so a proof goes by their cases and is then used
+-- at `recast r (r .opening .class) (r .waiting)`, which is r
+abbrev pub recast : Reading → Class → Option Awaited → Reading
+recast r class waiting =
     record {
       stage = r .stage;
-      opening = record { order = order; instrument = r .opening .instrument; start = r .opening .start };
+      opening = record { class = class; instrument = r .opening .instrument; start = r .opening .start };
       end = r .end;
       sections = r .sections;
       waiting = waiting;
@@ -58,11 +58,11 @@ section-append (y ∷ ys) x = ap (λ (l : List Section). sectionOf y ∷ l) (sec
 finished : (r : Reading) (x : Levelled) → standing (withLists r (r .sections ++ (x ∷ [])) none []) ≡ withSection (standing r) (sectionOf x)
 finished r x = λ i. record { line = withRuns (standing r .line) Nothing noRun; sections = section-append (r .sections) x i }
 
-ended : (r : Reading) (order : Order) (waiting : Option Awaited) (n : ℤ)
-    → standing (Plain.runEnded (recast r order waiting) n) ≡ Rules.runEnded (standing (recast r order waiting)) n
+ended : (r : Reading) (class : Class) (waiting : Option Awaited) (n : ℤ)
+    → standing (Plain.runEnded (recast r class waiting) n) ≡ Rules.runEnded (standing (recast r class waiting)) n
 ended r Third none n = refl
 ended r Fourth none n = finished (recast r Fourth none) (record { number = n; outward = r .present; back = none })
-ended r order (some w) n = finished (recast r order (some w)) (record { number = w .number; outward = w .outward; back = some (r .present) })
+ended r class (some w) n = finished (recast r class (some w)) (record { number = w .number; outward = w .outward; back = some (r .present) })
 
 -- for every reading and every call, whether a list of calls leads there or not
 pub follows : (r : Reading) (c : Call) → standing (Plain.taken r c) ≡ Rules.taken (standing r) c
@@ -70,7 +70,7 @@ follows r (open-line order instrument number height) = refl
 follows r (station kb kf readings) =
     let v : Standing = standing r in
     λ i. record { line = withRuns (v .line) (v .line .waiting) (run-append (r .present) (stationOf kb kf readings) i); sections = v .sections }
-follows r (end-run number) = ended r (r .opening .order) (r .waiting) number
+follows r (end-run number) = ended r (r .opening .class) (r .waiting) number
 follows r drop-run = refl
 follows r drop-section = refl
 follows r (close-line number end) = refl

@@ -30,7 +30,8 @@ use Rattle.adjust.specs.declared.Section.{Section}
 use Rattle.adjust.specs.declared.terms.Terms.{Terms}
 use Rattle.adjust.specs.Sizes.{mostQ, mostR, mostD}
 use Rattle.adjust.specs.Sections.{sectionFits}
-use Rattle.adjust.proofs.Orders.{Row}
+use Rattle.adjust.specs.Terms.{orderOf}
+use Rattle.adjust.proofs.Classes.{Row}
 use Rattle.rules.specs.declared.Run.{Run}
 use Rattle.rules.specs.Standing.{Standing, noRun, withStation, oneWay, bothWays, runFits, mostG, mostS, mostDifference}
 use Rattle.rules.specs.Rules.{station, stateTests, discrepancyWithin, refusal}
@@ -142,7 +143,7 @@ station-sized v kb kf readings e h =
     f = figuresOf x
 
     order : Order
-    order = v .line .opening .order
+    order = orderOf (v .line .opening .class)
 
     instrument : Instrument
     instrument = v .line .opening .instrument

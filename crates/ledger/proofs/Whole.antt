@@ -20,7 +20,7 @@ use Rattle.adjust.specs.declared.terms.Terms.{Terms}
 use Rattle.adjust.specs.Terms.{termsOf}
 use Rattle.adjust.specs.Sections.{sectionFits, misfit, heightInRange}
 use Rattle.adjust.specs.Line.{lineLength}
-use Rattle.adjust.proofs.Orders.{row}
+use Rattle.adjust.proofs.Classes.{row}
 use Rattle.adjust.proofs.Lists.{fitted-legs}
 use Rattle.adjust.proofs.Sized.{long}
 use Rattle.rules.specs.declared.Stage.{Stage}
@@ -63,7 +63,7 @@ pub record Kept (v : Standing) : Type 0 where
   pub placed : misplaced (v .line) (length (v .sections)) ≡ false
   -- what the report's fields ask
   pub number : natAbs (v .line .opening .start .number) ≤ 9999
-  pub narrow-sections : All (narrow (termsOf (v .line .opening .order))) (v .sections)
+  pub narrow-sections : All (narrow (termsOf (v .line .opening .class))) (v .sections)
 
 -- so the test of 20 does not hold
 pub kept-whole : (v : Standing) → Kept v → (c : Call) → broken v c ≡ false
@@ -83,7 +83,7 @@ kept-whole v i c =
 
 -- an open line is not fresh: what is left to see is what waits
 abbrev stray : Standing → Bool
-stray v = isReturn (v .line .waiting) && not (termsOf (v .line .opening .order) .double)
+stray v = isReturn (v .line .waiting) && not (termsOf (v .line .opening .class) .double)
 
 no-stray : (v : Standing) → Kept v → stray v ≡ false
 no-stray v i =
@@ -95,7 +95,7 @@ not-fresh Fresh e = no-true e
 not-fresh Open e = refl
 not-fresh Closed e = refl
 
-open-placed : (l : Line) (n : ℕ) → isOpen (l .stage) ≡ true → isReturn (l .waiting) && not (termsOf (l .opening .order) .double) ≡ false → misplaced l n ≡ false
+open-placed : (l : Line) (n : ℕ) → isOpen (l .stage) ≡ true → isReturn (l .waiting) && not (termsOf (l .opening .class) .double) ≡ false → misplaced l n ≡ false
 open-placed l n o e =
     λ j. (not-fresh (l .stage) o j && not (eqb n 0 && eqb (l .present .count) 0 && not (isReturn (l .waiting)))) || e j || (not-shut (l .stage) o j && eqb n 0)
   where
@@ -106,7 +106,7 @@ open-placed l n o e =
 
 -- other runs beside the same sections
 runs-kept : (v : Standing) (w : Waiting) (u : Run) → Kept v → isOpen (v .line .stage) ≡ true → Awaits (length (v .sections)) w → Sized u
-    → isReturn w && not (termsOf (v .line .opening .order) .double) ≡ false → Kept (record { line = withRuns (v .line) w u; sections = v .sections })
+    → isReturn w && not (termsOf (v .line .opening .class) .double) ≡ false → Kept (record { line = withRuns (v .line) w u; sections = v .sections })
 runs-kept v w u i o k h e =
     record {
       few = i .few;
@@ -124,7 +124,7 @@ runs-kept v w u i o k h e =
 -- ---- the end of a run
 
 -- a section more, one that fits and for which there is room
-section-kept : (v : Standing) (x : Section) → Kept v → isOpen (v .line .stage) ≡ true → length (v .sections) < 64 → sectionFits x ≡ true → narrow (termsOf (v .line .opening .order)) x ≡ true
+section-kept : (v : Standing) (x : Section) → Kept v → isOpen (v .line .stage) ≡ true → length (v .sections) < 64 → sectionFits x ≡ true → narrow (termsOf (v .line .opening .class)) x ≡ true
     → Kept (withSection v x)
 section-kept v x i o room e n =
     record {
@@ -137,7 +137,7 @@ section-kept v x i o room e n =
       closed = λ c. rw (length-append (v .sections) (x ∷ [])) (omega arith);
       placed = open-placed (withSection v x .line) (length (withSection v x .sections)) o refl;
       number = i .number;
-      narrow-sections = let p = narrow (termsOf (v .line .opening .order)) in all-append p (v .sections) (x ∷ []) (i .narrow-sections) (all-cons p x [] n refl);
+      narrow-sections = let p = narrow (termsOf (v .line .opening .class)) in all-append p (v .sections) (x ∷ []) (i .narrow-sections) (all-cons p x [] n refl);
     }
 
 number-size : (n : ℤ) → numberInRange n ≡ true → natAbs n ≤ 9999
@@ -166,7 +166,7 @@ run-kept v number i e =
     n = length (v .sections)
 
     terms : Terms
-    terms = termsOf (v .line .opening .order)
+    terms = termsOf (v .line .opening .class)
 
     go : (w : Waiting) (t : Bool) → terms .double ≡ t → 0 < u .count → Awaits n w → not (isReturn w) && leb 64 n ≡ false
         → outwardOrReturn w false (λ outward run. not (discrepancyWithin (terms .apart) (bothWays outward run u))) ≡ false
@@ -178,7 +178,7 @@ run-kept v number i e =
         section-kept v (oneWay number u) i running (leb-false 64 n room) (one-way-fits number u (i .present) some) (one-way-narrow terms number u small (i .present))
     go (Outward outward run) t both some k room d =
         let near = not-false (discrepancyWithin (terms .apart) (bothWays outward run u)) d in
-        section-kept v (bothWays outward run u) i running (k .1) (both-ways-fits terms (row (v .line .opening .order)) outward run u (k .0) (i .present) some near)
+        section-kept v (bothWays outward run u) i running (k .1) (both-ways-fits terms (row (v .line .opening .class)) outward run u (k .0) (i .present) some near)
         (both-ways-narrow terms outward run u (k .2) (k .0) (i .present) near)
 
 -- ---- a call
@@ -257,7 +257,7 @@ pub no-shorter : (v : Standing) (c : Call) → Kept v → refusal v c ≡ 0 → 
 no-shorter v (open-line order instrument number height) i e =
     omega (arith, fresh-none v i (not-false (isFresh (v .line .stage)) (fails v (open-line order instrument number height) e 21)))
 no-shorter v (station kb kf readings) i e = le-refl (length (v .sections))
-no-shorter v (end-run number) i e = run-longer v number (v .line .waiting) (termsOf (v .line .opening .order) .double)
+no-shorter v (end-run number) i e = run-longer v number (v .line .waiting) (termsOf (v .line .opening .class) .double)
 no-shorter v drop-run i e = le-refl (length (v .sections))
 no-shorter v drop-section i e = le-refl (length (v .sections))
 no-shorter v (close-line number end) i e = le-refl (length (v .sections))

@@ -8,7 +8,7 @@ use lib.ListN.{length}
 use lib.Dec.{eqb}
 use lib.IntN.{ℤ, pos}
 use Rattle.numbers.specs.Whole.{sum, lastOf}
-use Rattle.station.specs.declared.Order.the-variants.{Fourth}
+use Rattle.adjust.specs.declared.terms.Class.the-variants.{Fourth}
 use Rattle.station.specs.declared.Instrument.the-variants.{Ds3}
 use Rattle.station.specs.Station.{Station, stationOf, sights, sightDifference, twiceHeight}
 use Rattle.adjust.specs.declared.Opening.{Opening}
@@ -103,7 +103,7 @@ runEnded r number = go (r .waiting)
 
     go : Option Awaited → Reading
     go none =
-        cond (termsOf (r .opening .order) .double)
+        cond (termsOf (r .opening .class) .double)
         (withLists r (r .sections) (some (record { number = number; outward = r .present })) [])
         (finished (record { number = number; outward = r .present; back = none }))
     go (some w) = finished (record { number = w .number; outward = w .outward; back = some (r .present) })
@@ -146,7 +146,7 @@ abbrev pub freshReading : Reading
 freshReading =
     record {
       stage = Fresh;
-      opening = record { order = Fourth; instrument = Ds3; start = record { number = pos 0; height = pos 0 } };
+      opening = record { class = Fourth; instrument = Ds3; start = record { number = pos 0; height = pos 0 } };
       end = pos 0;
       sections = [];
       waiting = none;

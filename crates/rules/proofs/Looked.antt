@@ -104,4 +104,4 @@ module _ (b : Book) where
       ∷ (29, eqb (l .present .count) 0 || eqb (l .present .count % 2) 1)
       ∷ (31, not (isReturn (l .waiting)) && leb 64 (counted i))
       ∷ (30, not (cond (isReturn (l .waiting)) (eqZ number (began-alike i)) (not (on-alike number i) && not (eqZ number (l .opening .start .number) && empty i))))
-      ∷ (32, outwardOrReturn (l .waiting) false (λ outward run. not (discrepancyWithin (termsOf (l .opening .order) .apart) (bothWays outward run (l .present))))) ∷ []))
+      ∷ (32, outwardOrReturn (l .waiting) false (λ outward run. not (discrepancyWithin (termsOf (l .opening .class) .apart) (bothWays outward run (l .present))))) ∷ []))

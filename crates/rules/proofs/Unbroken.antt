@@ -107,7 +107,7 @@ fresh-none l xs e f =
     let idle = eqb (l .present .count) 0 in
     let back = isReturn (l .waiting) in
     let nothing = none && idle && not back in
-    let stray = back && not (termsOf (l .opening .order) .double) in
+    let stray = back && not (termsOf (l .opening .class) .double) in
     let fresh = or-l (isFresh (l .stage) && not nothing) stray (or-l (isFresh (l .stage) && not nothing || stray) (isClosed (l .stage) && eqb (length xs) 0) (unbroken l (length xs) e .placed)) in
     let held = not-false nothing (ap (λ (t : Bool). t && not nothing) (sym f) ∙ fresh) in
     none-long xs (and-l none idle (and-l (none && idle) (not back) held))
@@ -116,7 +116,7 @@ fresh-none l xs e f =
 pub closed-some : {A : Type 0} (l : Line) (xs : List A) → misplaced l (length xs) ≡ false → isClosed (l .stage) ≡ true → isEmpty xs ≡ false
 closed-some l xs e f =
     let nothing = eqb (length xs) 0 && eqb (l .present .count) 0 && not (isReturn (l .waiting)) in
-    let none = or-r ((isFresh (l .stage) && not nothing) || (isReturn (l .waiting) && not (termsOf (l .opening .order) .double))) (isClosed (l .stage) && eqb (length xs) 0) e in
+    let none = or-r ((isFresh (l .stage) && not nothing) || (isReturn (l .waiting) && not (termsOf (l .opening .class) .double))) (isClosed (l .stage) && eqb (length xs) 0) e in
     some xs (ap (λ (t : Bool). t && eqb (length xs) 0) (sym f) ∙ none)
   where
     some : {A : Type 0} (ys : List A) → eqb (length ys) 0 ≡ false → isEmpty ys ≡ false

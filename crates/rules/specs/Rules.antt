@@ -10,8 +10,6 @@ use lib.Signed.{leZ}
 use Rattle.numbers.specs.Whole.{between, eqZ}
 use Rattle.numbers.specs.Tables.{firstOf}
 use Rattle.roots.specs.Limit.{isWithin}
-use Rattle.station.specs.declared.Order.{Order}
-use Rattle.station.specs.declared.Order.the-variants.{Third, Fourth}
 use Rattle.station.specs.declared.Instrument.{Instrument}
 use Rattle.station.specs.declared.Instrument.the-variants.{Ds3, Ds1}
 use Rattle.station.specs.declared.Figures.{Figures}
@@ -20,9 +18,11 @@ use Rattle.adjust.specs.declared.Opening.{Opening}
 use Rattle.adjust.specs.declared.Section.{Section}
 use Rattle.adjust.specs.Sections.{misfit, heightInRange}
 use Rattle.adjust.specs.declared.Totals.{Totals}
+use Rattle.adjust.specs.declared.terms.Class.{Class}
+use Rattle.adjust.specs.declared.terms.Class.the-variants.{Third, Fourth}
 use Rattle.adjust.specs.declared.terms.Root.{Root}
 use Rattle.adjust.specs.declared.terms.Terms.{Terms}
-use Rattle.adjust.specs.Terms.{termsOf}
+use Rattle.adjust.specs.Terms.{orderOf, termsOf}
 use Rattle.adjust.specs.Line.{totals}
 use Rattle.rules.specs.declared.Stage.the-variants.{Open, Closed}
 use Rattle.rules.specs.declared.Run.{Run}
@@ -43,9 +43,9 @@ pub data Call : Type 0 where
 
 -- ---- the parts of the rules
 
--- the order and the instrument that open's numbers name: 3 or 4; 3 for DS3, 1 for DS1 and DS05
-abbrev pub orderOf : ℤ → Order
-orderOf n = cond (eqZ n (pos 3)) Third Fourth
+-- the class and the instrument that open's numbers name: 3 or 4; 3 for DS3, 1 for DS1 and DS05
+abbrev pub classOf : ℤ → Class
+classOf n = cond (eqZ n (pos 3)) Third Fourth
 
 abbrev pub instrumentOf : ℤ → Instrument
 instrumentOf n = cond (eqZ n (pos 3)) Ds3 Ds1
@@ -94,7 +94,7 @@ abbrev pub totalTests : Terms → Bool → Totals → List (ℕ × Bool)
 totalTests terms loop t = (35, not (leZ (t .distance) (lengthLimit terms loop))) ∷ (36, not (closureWithin terms (t .closure) (t .distance))) ∷ []
 
 abbrev pub lineTests : Standing → ℤ → List (ℕ × Bool)
-lineTests v end = totalTests (termsOf (v .line .opening .order)) (isShut v) (totals (v .line .opening .start .height) end (v .sections))
+lineTests v end = totalTests (termsOf (v .line .opening .class)) (isShut v) (totals (v .line .opening .start .height) end (v .sections))
 
 -- of a station with the figures f, whose back staff has the constant kb
 abbrev pub stationTests : Line → Bool → ℤ → Figures → List (ℕ × Bool)
@@ -102,7 +102,7 @@ stationTests l shut kb f =
     (21, not (isOpen (l .stage)) || shut)
     ∷ (22, leb 200 (l .present .count))
     ∷ (23, outOfTurn l kb)
-    ∷ limitTests (limitsOf (l .opening .order) (l .opening .instrument)) (l .present .difference) f
+    ∷ limitTests (limitsOf (orderOf (l .opening .class)) (l .opening .instrument)) (l .present .difference) f
 
 -- and those that a book makes of it, which also tests for 20
 abbrev pub bookStationTests : Standing → ℤ → Figures → List (ℕ × Bool)
@@ -117,7 +117,7 @@ stateTests v (end-run number) =
     ∷ (29, eqb (v .line .present .count) 0 || eqb (v .line .present .count % 2) 1)
     ∷ (31, not (isReturn (v .line .waiting)) && leb 64 (length (v .sections)))
     ∷ (30, not (numberAllowed v number))
-    ∷ (32, outwardOrReturn (v .line .waiting) false (λ outward run. not (discrepancyWithin (termsOf (v .line .opening .order) .apart) (bothWays outward run (v .line .present))))) ∷ []
+    ∷ (32, outwardOrReturn (v .line .waiting) false (λ outward run. not (discrepancyWithin (termsOf (v .line .opening .class) .apart) (bothWays outward run (v .line .present))))) ∷ []
 stateTests v drop-run = (21, not (isOpen (v .line .stage))) ∷ []
 stateTests v drop-section = (21, not (isOpen (v .line .stage))) ∷ []
 stateTests v (close-line number end) =
@@ -178,7 +178,7 @@ withSection v x = record { line = withRuns (v .line) Nothing noRun; sections = v
 abbrev pub runEnded : Standing → ℤ → Standing
 runEnded v number =
     outwardOrReturn (v .line .waiting)
-    (cond (termsOf (v .line .opening .order) .double)
+    (cond (termsOf (v .line .opening .class) .double)
     (record { line = withRuns (v .line) (Outward number (v .line .present)) noRun; sections = v .sections })
     (withSection v (oneWay number (v .line .present))))
     (λ outward run. withSection v (bothWays outward run (v .line .present)))
@@ -188,7 +188,7 @@ abbrev pub begun : Opening → Line
 begun o = record { stage = Open; opening = o; end = pos 0; waiting = Nothing; present = noRun }
 
 abbrev pub openingOf : ℤ → ℤ → ℤ → ℤ → Opening
-openingOf order instrument number height = record { order = orderOf order; instrument = instrumentOf instrument; start = record { number = number; height = height } }
+openingOf order instrument number height = record { class = classOf order; instrument = instrumentOf instrument; start = record { number = number; height = height } }
 
 abbrev pub closedAt : Line → ℤ → Line
 closedAt l end =

@@ -128,7 +128,7 @@ waitingBroken w count = outwardOrReturn w false (λ number run. not (runFits run
 abbrev pub misplaced : Line → ℕ → Bool
 misplaced l count =
     (isFresh (l .stage) && not (eqb count 0 && eqb (l .present .count) 0 && not (isReturn (l .waiting))))
-    || (isReturn (l .waiting) && not (termsOf (l .opening .order) .double))
+    || (isReturn (l .waiting) && not (termsOf (l .opening .class) .double))
     || (isClosed (l .stage) && eqb count 0)
 
 -- a line beside count sections; there is no place for more than 64

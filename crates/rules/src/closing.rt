@@ -52,8 +52,8 @@ fn line_refusal(line: Line, sections: Sections, end: i64, shut: bool) -> u8
     ensures { λ r. ⌜ r ≡ firstOf (lineTests (record { line = line; sections = sectionsOf sections }) end) ⌝ }
 {
     let opening = line.opening;
-    let order = opening.order;
-    let terms = terms_of(order);
+    let class = opening.class;
+    let terms = terms_of(class);
     let answer = adjust::totals_of(line.opening.start.height, end, sections);
     match answer {
         LineTotals::Totalled(t) => limit_refusal(terms, shut, t),

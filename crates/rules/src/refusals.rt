@@ -19,6 +19,7 @@ use super::state::line_broken;
 use super::state::look;
 use super::state::on_line;
 use adjust::terms::Root;
+use adjust::terms::order_of;
 use adjust::terms::terms_of;
 use roots::limits::within;
 use station::Figures;
@@ -91,9 +92,9 @@ fn station_state(line: Line, shut: bool, kb: i64, f: Figures) -> u8
 {
     let stage = line.stage;
     let opening = line.opening;
-    let order = opening.order;
+    let class = opening.class;
     let instrument = opening.instrument;
-    let limits = station::judge(order, instrument, line.present.difference, f);
+    let limits = station::judge(order_of(class), instrument, line.present.difference, f);
     let turn = pick(out_of_turn(line, kb), 23, limits);
     let full = pick(200 <= line.present.count, 22, turn);
     pick(!is_open(stage) | shut, 21, full)
@@ -163,8 +164,8 @@ fn end_state(line: Line, count: usize, numbers: &[i64; 64], shut: bool, number: 
     let present = line.present;
     let stations = present.count;
     let opening = line.opening;
-    let order = opening.order;
-    let terms = terms_of(order);
+    let class = opening.class;
+    let terms = terms_of(class);
     let apart = terms.apart;
     let far = pick(too_far(apart, waiting, present), 32, 0);
     let place = pick(!number_allowed(line, count, numbers, number), 30, far);

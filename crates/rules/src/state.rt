@@ -108,8 +108,8 @@ fn is_misplaced(line: Line, count: usize) -> bool
     let stage = line.stage;
     let waiting = line.waiting;
     let opening = line.opening;
-    let order = opening.order;
-    let terms = terms_of(order);
+    let class = opening.class;
+    let terms = terms_of(class);
     let back = is_return(waiting);
     (is_fresh(stage) & !((count == 0) & (line.present.count == 0) & !back))
         | (back & !terms.double)

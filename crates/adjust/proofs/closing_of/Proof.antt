@@ -13,7 +13,7 @@ use Rattle.adjust.specs.Sections.{sectionsOf}
 use Rattle.adjust.specs.Line.{totals, frame, points, accidentalSum, verdict}
 use Rattle.adjust.specs.Frames.{noPoint}
 use Rattle.adjust.specs.code.Bounds.{Framed}
-use Rattle.adjust.proofs.Orders.{Row, row}
+use Rattle.adjust.proofs.Classes.{Row, row}
 use Rattle.adjust.proofs.Lists.{from-length}
 use Rattle.adjust.proofs.Sized.{framed}
 use borrow.Author.Needs.{needs}
@@ -33,7 +33,7 @@ verdict-of-requires : tie.Need-verdict-of-requires
 verdict-of-requires c κs =
     let m = c .before .before .before in
     let s = m .before .before in
-    (s .pre .0 .fits .few, subst Row (sym (m .terms-of .ensures)) (row (s .args .opening .order)) .accidental)
+    (s .pre .0 .fits .few, subst Row (sym (m .terms-of .ensures)) (row (s .args .opening .class)) .accidental)
 
 points-of-requires : tie.Need-points-of-requires
 points-of-requires c κs =

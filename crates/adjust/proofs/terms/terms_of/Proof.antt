@@ -1,4 +1,4 @@
--- `terms_of` meets its contract, order by order.
+-- `terms_of` meets its contract, class by class.
 use mathlib.Core.Path.{sym, ap}
 use Rattle.adjust.specs.Terms.{termsOf}
 use borrow.Author.Needs.{needs}

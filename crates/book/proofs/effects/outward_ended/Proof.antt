@@ -33,7 +33,7 @@ finished-requires : tie.Need-finished-requires
 finished-requires c κs = search needs
 
 -- what was read of the table
-read : (r : tie.After-terms-of) → termsOf (r .before .before .before .args .line .opening .order) .double ≡ r .terms-of .result .double
+read : (r : tie.After-terms-of) → termsOf (r .before .before .before .args .line .opening .class) .double ≡ r .terms-of .result .double
 read r = sym (ap (λ (x : Terms). x .double) (r .terms-of .ensures))
 
 returns : tie.Need-returns

@@ -12,6 +12,9 @@ use borrow.Author.Needs.{needs}
 use Rattle.rules.proofs.refusals.station_state.Statement.{statement}
 use Rattle.rules.proofs.refusals.station_state.Tie as tie
 
+order-of-requires : tie.Need-order-of-requires
+order-of-requires c κs = search needs
+
 judge-requires : tie.Need-judge-requires
 judge-requires c κs = search needs
 
@@ -40,9 +43,10 @@ returns c =
     let turned = full .before .before in
     let turn = turned .before in
     let limits = turn .before in
-    let s = limits .before .before .before in
+    let ordered = limits .before .before in
+    let s = ordered .before .before in
     let l = s .args .line in
-    let limit = limits .judge .ensures ∙ (λ i. firstOf (limitTests (limitsOf (l .opening .order) (l .opening .instrument)) (stored-id (difference-fits s) i) (s .args .f))) in
+    let limit = limits .judge .ensures ∙ (λ i. firstOf (limitTests (limitsOf (ordered .order-of .ensures i) (l .opening .instrument)) (stored-id (difference-fits s) i) (s .args .f))) in
     let e23 = turned .pick .ensures ∙ (λ i. cond ((turn .out-of-turn .ensures ∙ ap (outOfTurn l) (stored-id (s .fits .kb))) i) 23 (limit i)) in
     let e22 = full .pick2 .ensures ∙ (λ i. cond (leb 200 (l .present .count)) 22 (e23 i)) in
     c .pick3 .ensures ∙ (λ i. cond (not (opened .is-open .ensures i) || s .args .shut) 21 (e22 i))
@@ -51,6 +55,7 @@ pub station-state-spec : {M : Type 1} → statement M
 station-state-spec =
     tie.close
     (tie.spec
+    order-of-requires
     judge-requires
     out-of-turn-requires
     pick-requires

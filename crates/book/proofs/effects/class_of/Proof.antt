@@ -1,13 +1,13 @@
--- `order_of` meets its contract.
+-- `class_of` meets its contract.
 use mathlib.Core.Path.{sym, ap, _∙_}
 use mathlib.Core.Bool.{Bool, cond}
 use lib.IntN.{pos}
 use borrow.Author.Tests.{eq-eqb, ne-eqb}
 use mir.Facts.{sfits-lit}
 use Rattle.numbers.proofs.Equal.{eq-as}
-use Rattle.station.specs.declared.Order.the-variants.{Third, Fourth}
-use Rattle.book.proofs.effects.order_of.Statement.{statement}
-use Rattle.book.proofs.effects.order_of.Tie as tie
+use Rattle.adjust.specs.declared.terms.Class.the-variants.{Third, Fourth}
+use Rattle.book.proofs.effects.class_of.Statement.{statement}
+use Rattle.book.proofs.effects.class_of.Tie as tie
 
 returns : tie.Need-returns
 returns c =
@@ -19,5 +19,5 @@ returns-2 c =
     let s = c .before in
     sym (ap (λ (t : Bool). cond t Third Fourth) (sym (eq-as (s .fits .n) (sfits-lit {z = pos 3} tt)) ∙ ne-eqb _ _ (c .if1 .left)))
 
-pub order-of-spec : {M : Type 1} → statement M
-order-of-spec = tie.close (tie.spec returns returns-2)
+pub class-of-spec : {M : Type 1} → statement M
+class-of-spec = tie.close (tie.spec returns returns-2)

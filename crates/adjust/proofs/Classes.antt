@@ -1,9 +1,9 @@
--- What every row of the table of orders keeps: the sizes by which T and D fit.
+-- What every row of the table of classes keeps: the sizes by which T and D fit.
 use Prim.Native.Nat.{_*_, _≤_, _<_}
 use native.Mathlib.Omega.{arith}
 use lib.IntN.{natAbs}
-use Rattle.station.specs.declared.Order.{Order}
-use Rattle.station.specs.declared.Order.the-variants.{Third, Fourth}
+use Rattle.adjust.specs.declared.terms.Class.{Class}
+use Rattle.adjust.specs.declared.terms.Class.the-variants.{Third, Fourth}
 use Rattle.adjust.specs.declared.terms.Terms.{Terms}
 use Rattle.adjust.specs.Sizes.{mostR, mostD, mostAllowed}
 use Rattle.adjust.specs.Terms.{termsOf}
@@ -14,6 +14,6 @@ pub record Row (t : Terms) : Type 0 where
   pub apart : t .apart .b * mostR ≤ mostD * mostD
   pub accidental : natAbs (t .accidental) ≤ mostAllowed
 
-pub row : (o : Order) → Row (termsOf o)
+pub row : (o : Class) → Row (termsOf o)
 row Third = record { some = omega arith; apart = omega arith; accidental = omega arith }
 row Fourth = record { some = omega arith; apart = omega arith; accidental = omega arith }

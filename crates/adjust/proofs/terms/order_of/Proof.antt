@@ -1,0 +1,21 @@
+-- `order_of` meets its contract, class by class.
+use mathlib.Core.Path.{sym, ap}
+use Rattle.adjust.specs.Terms.{orderOf}
+use borrow.Author.Needs.{needs}
+use Rattle.adjust.proofs.terms.order_of.Statement.{statement}
+use Rattle.adjust.proofs.terms.order_of.Tie as tie
+
+enum-told : tie.Need-enum-told
+enum-told c = search needs
+
+enum-told-2 : tie.Need-enum-told-2
+enum-told-2 c = search needs
+
+returns : tie.Need-returns
+returns c = sym (ap orderOf (c .enum-told .given .1))
+
+returns-2 : tie.Need-returns-2
+returns-2 c = sym (ap orderOf (c .enum-told2 .given .1))
+
+pub order-of-spec : {M : Type 1} → statement M
+order-of-spec = tie.close (tie.spec enum-told enum-told-2 returns returns-2)
