@@ -34,7 +34,7 @@ use Rattle.book.specs.declared.Change.{Change}
 use Rattle.book.specs.declared.Step.{Step}
 use Rattle.book.specs.declared.Outcome.{Outcome}
 use Rattle.book.specs.Calls.{bookAfter, stepOf, outcome, Answers}
-use Rattle.book.specs.code.Changes.{noSection, lineOnly, effectOf, changeBy, changeOf, stores, storedIn, withChange, changed}
+use Rattle.book.specs.code.Changes.{noSection, lineOnly, lineChange, effectOf, changeBy, changeOf, stores, storedIn, withChange, changed}
 
 -- ---- a section that is stored
 
@@ -173,6 +173,12 @@ module _ (v : Standing) (l : Line) {c d : Call} (same : d ≡ c) {code : ℕ} (e
   change-taken {x} z m =
       subst (λ (k : Call). x ≡ changeBy (bookRefusal v k) l k) same
       (m ∙ sym (zero-cond code (effectOf l d) (lineOnly code l) z) ∙ ap (λ (n : ℕ). changeBy n l d) e)
+
+  -- of one that only leaves another line where it is taken
+  pub change-made : {next : Line} {x : Change} → lineOnly 0 next ≡ effectOf l d → x ≡ lineChange code l next → x ≡ changeBy (bookRefusal v c) l c
+  change-made {next} {x} m k =
+      subst (λ (k : Call). x ≡ changeBy (bookRefusal v k) l k) same
+      (k ∙ (λ i. cond (eqb code 0) (m i) (lineOnly code l)) ∙ ap (λ (n : ℕ). changeBy n l d) e)
 
 -- ---- what an outcome answers
 

@@ -11,7 +11,7 @@ ghost use Rattle.adjust.specs.Frames.{noPoint, figuresFit};
 ghost use Rattle.book.specs.declared.CloseAnswer.the-variants.{NotClosed};
 ghost use Rattle.rules.specs.Records.{callOf};
 ghost use Rattle.book.specs.Calls.{stepOf, Answers, closeFigures, Closes, Tells};
-ghost use Rattle.book.specs.code.Changes.{changed};
+ghost use Rattle.book.specs.code.Changes.{changed, closedStep};
 use super::Change;
 use super::CloseAnswer;
 use super::CloseOutcome;
@@ -149,31 +149,42 @@ fn figures_between(opening: Opening, end: i64, s: Sections) -> ClosedFigures
     }
 }
 
+// What a closing answers with this number: the refusal, or where it is 0 the figures of the line between two known heights.
+fn figures_by(number: u8, opening: Opening, end: i64, s: Sections) -> ClosedFigures
+    requires { ⌜ (number ≡ 0 → figuresFit (opening .start .height) end (sectionsOf s) ≡ true) ⌝ }
+    ensures { λ r. ⌜ r ≡ closeFigures number (closing opening end (sectionsOf s)) ⌝ }
+{
+    if number != 0 {
+        return not_closed(number);
+    }
+    figures_between(opening, end, s)
+}
+
+// The outcome of a closing whose step was s, of the line of b.
+fn closed_by(b: Book, s: Step, end: i64) -> CloseOutcome
+    requires { ⌜ (s .number ≡ 0 → figuresFit (b .line .opening .start .height) end (sectionsOf (b .sections)) ≡ true) ⌝ }
+    ensures { λ r. ⌜ r ≡ closedStep b s end ⌝ }
+{
+    let line = b.line;
+    let opening = line.opening;
+    let sections = b.sections;
+    let figures = figures_by(s.number, opening, end, sections);
+    let answer = figures.answer;
+    let points = figures.points;
+    let book = s.book;
+    CloseOutcome {
+        answer: answer,
+        book: book,
+        points: points,
+    }
+}
+
 // Close the line on its last benchmark, whose known height is end.
 pub fn close_line(b: Book, number: i64, end: i64) -> CloseOutcome
     ensures { λ r. ⌜ Closes b (close-line number end) r ⌝ }
 {
     let s = take(b, Tag::End, [number, end, 0, 0, 0, 0, 0, 0, 0, 0]);
-    if s.number != 0 {
-        let none = adjust::no_points();
-        return CloseOutcome {
-            answer: CloseAnswer::NotClosed(s.number),
-            book: b,
-            points: none,
-        };
-    }
-    let line = b.line;
-    let opening = line.opening;
-    let sections = b.sections;
-    let figures = figures_between(opening, end, sections);
-    let answer = figures.answer;
-    let points = figures.points;
-    let next = s.book;
-    CloseOutcome {
-        answer: answer,
-        book: next,
-        points: points,
-    }
+    closed_by(b, s, end)
 }
 
 // The figures of a closed book once more. A book that is not closed is refused with 21, a broken one with 20.
@@ -182,10 +193,7 @@ pub fn figures_of(b: Book) -> ClosedFigures
 {
     let line = b.line;
     let sections = b.sections;
-    let code = figures_refusal(line, sections);
-    if code != 0 {
-        return not_closed(code);
-    }
     let opening = line.opening;
-    figures_between(opening, line.end, sections)
+    let code = figures_refusal(line, sections);
+    figures_by(code, opening, line.end, sections)
 }

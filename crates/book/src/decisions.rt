@@ -5,7 +5,7 @@ ghost use Rattle.rules.specs.Standing.{bookIn, standingIn};
 ghost use Rattle.rules.specs.code.Seen.{numbersIn, beside};
 ghost use Rattle.rules.specs.Rules.{open-line, station, end-run, drop-run, drop-section, close-line, bookRefusal};
 ghost use Rattle.rules.specs.Records.{callOf};
-ghost use Rattle.book.specs.code.Changes.{lineOnly, changeBy, changeOf};
+ghost use Rattle.book.specs.code.Changes.{lineOnly, lineChange, changeBy, changeOf};
 use super::Change;
 use super::effects::begun;
 use super::effects::closed;
@@ -42,6 +42,16 @@ pub(crate) fn line_only(number: u8, line: Line) -> Change
     }
 }
 
+// Of a call that only leaves another line where it is taken.
+fn line_change(number: u8, line: Line, next: Line) -> Change
+    ensures { λ r. ⌜ r ≡ lineChange number line next ⌝ }
+{
+    if number != 0 {
+        return line_only(number, line);
+    }
+    line_only(0, next)
+}
+
 fn open_change(
     line: Line,
     count: usize,
@@ -53,10 +63,11 @@ fn open_change(
     ensures { λ r. ⌜ r ≡ changeBy (bookRefusal (beside line count) (open-line order instrument number height)) line (open-line order instrument number height) ⌝ }
 {
     let code = open_refusal(line, count, order, instrument, number, height);
-    if code != 0 {
-        return line_only(code, line);
-    }
-    line_only(0, begun(opening_of(order, instrument, number, height)))
+    line_change(
+        code,
+        line,
+        begun(opening_of(order, instrument, number, height)),
+    )
 }
 
 pub(crate) fn station_change(
@@ -104,21 +115,13 @@ fn end_change(line: Line, count: usize, numbers: &[i64; 64], number: i64) -> Cha
 fn drop_run_change(line: Line, count: usize) -> Change
     ensures { λ r. ⌜ r ≡ changeBy (bookRefusal (beside line count) drop-run) line drop-run ⌝ }
 {
-    let code = drop_refusal(line, count);
-    if code != 0 {
-        return line_only(code, line);
-    }
-    line_only(0, run_dropped(line))
+    line_change(drop_refusal(line, count), line, run_dropped(line))
 }
 
 fn drop_section_change(line: Line, count: usize) -> Change
     ensures { λ r. ⌜ r ≡ changeBy (bookRefusal (beside line count) drop-section) line drop-section ⌝ }
 {
-    let code = drop_refusal(line, count);
-    if code != 0 {
-        return line_only(code, line);
-    }
-    line_only(0, section_dropped(line))
+    line_change(drop_refusal(line, count), line, section_dropped(line))
 }
 
 fn close_change<'a>(
@@ -143,10 +146,7 @@ fn close_change<'a>(
         number,
         end,
     );
-    if code != 0 {
-        return line_only(code, line);
-    }
-    line_only(0, closed(line, end))
+    line_change(code, line, closed(line, end))
 }
 
 // Of the record with this tag and these numbers. No list is written, and none is copied but those of a line that is closed.

@@ -8,11 +8,16 @@ use lib.IntN.{ℤ, pos}
 use Rattle.adjust.specs.declared.Section.{Section}
 use Rattle.adjust.specs.declared.Sections.{Sections}
 use Rattle.adjust.specs.Sections.{sectionsOf, holding, unnumbered}
+use Rattle.adjust.specs.Line.{closing}
 use Rattle.rules.specs.declared.Line.{Line}
 use Rattle.rules.specs.declared.Book.{Book}
 use Rattle.rules.specs.Standing.{Standing, standingOf, isEmpty}
 use Rattle.rules.specs.Rules.{Call, bookRefusal, taken}
 use Rattle.book.specs.declared.Change.{Change}
+use Rattle.book.specs.declared.Step.{Step}
+use Rattle.book.specs.declared.ClosedFigures.{ClosedFigures}
+use Rattle.book.specs.declared.CloseOutcome.{CloseOutcome}
+use Rattle.book.specs.Calls.{closeFigures}
 
 abbrev pub noSection : Section
 noSection = unnumbered (pos 0) (pos 0) (pos 0)
@@ -20,6 +25,10 @@ noSection = unnumbered (pos 0) (pos 0) (pos 0)
 -- a change of the line alone
 abbrev pub lineOnly : ℕ → Line → Change
 lineOnly number l = record { number = number; line = l; finishes = false; section = noSection }
+
+-- by the number of a call that only leaves another line where it is taken
+abbrev pub lineChange : ℕ → Line → Line → Change
+lineChange n l next = cond (eqb n 0) (lineOnly 0 next) (lineOnly n l)
 
 -- what a call that is taken changes, told by the rules of the line beside no sections: a section that it finishes is then the only one
 unfoldable pub effectOf : Line → Call → Change
@@ -48,3 +57,9 @@ withChange s x = cond (stores x (s .count)) (holding s (sectionsOf s ++ (x .sect
 
 abbrev pub changed : Book → Change → Book
 changed b x = record { line = x .line; sections = withChange (b .sections) x }
+
+-- the outcome of a closing whose step was s, of the line of b on the end height
+abbrev pub closedStep : Book → Step → ℤ → CloseOutcome
+closedStep b s end =
+    let f : ClosedFigures = closeFigures (s .number) (closing (b .line .opening) end (sectionsOf (b .sections))) in
+    record { answer = f .answer; book = s .book; points = f .points }

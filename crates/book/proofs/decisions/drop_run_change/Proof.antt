@@ -1,9 +1,9 @@
 -- `drop_run_change` meets its contract, by its refusal and its effect.
-use mathlib.Core.Path.{ap, _∙_}
+use mathlib.Core.Path.{ap}
 use Rattle.rules.specs.Rules.{drop-run}
 use Rattle.rules.specs.code.Seen.{beside}
 use Rattle.book.specs.code.Changes.{lineOnly, effectOf}
-use Rattle.book.proofs.Joined.{plain, change-refused, change-taken}
+use Rattle.book.proofs.Joined.{plain, change-made}
 use borrow.Author.Needs.{needs}
 use Rattle.book.proofs.decisions.drop_run_change.Statement.{statement}
 use Rattle.book.proofs.decisions.drop_run_change.Tie as tie
@@ -11,38 +11,19 @@ use Rattle.book.proofs.decisions.drop_run_change.Tie as tie
 drop-refusal-requires : tie.Need-drop-refusal-requires
 drop-refusal-requires c κs = search needs
 
-line-only-requires : tie.Need-line-only-requires
-line-only-requires c κs = search needs
-
-returns : tie.Need-returns
-returns c =
-    let t = c .before in
-    let r = t .before in
-    let a = r .before .args in
-    change-refused (beside (a .line) (a .count)) (a .line) (plain drop-run) (r .drop-refusal .ensures) (t .if1 .taken) (c .line-only .ensures)
-
 run-dropped-requires : tie.Need-run-dropped-requires
 run-dropped-requires c κs = search needs
 
-line-only-requires-2 : tie.Need-line-only-requires-2
-line-only-requires-2 c κs = search needs
+line-change-requires : tie.Need-line-change-requires
+line-change-requires c κs = search needs
 
-returns-2 : tie.Need-returns-2
+returns : tie.Need-returns
 unfolding effectOf
-returns-2 c =
+returns c =
     let d = c .before in
-    let e = d .before in
-    let r = e .before in
+    let r = d .before in
     let a = r .before .args in
-    change-taken (beside (a .line) (a .count)) (a .line) (plain drop-run) (r .drop-refusal .ensures) (e .if1 .left) (c .line-only2 .ensures ∙ ap (lineOnly 0) (d .run-dropped .ensures))
+    change-made (beside (a .line) (a .count)) (a .line) (plain drop-run) (r .drop-refusal .ensures) (ap (lineOnly 0) (d .run-dropped .ensures)) (c .line-change .ensures)
 
 pub drop-run-change-spec : {M : Type 1} → statement M
-drop-run-change-spec =
-    tie.close
-    (tie.spec
-    drop-refusal-requires
-    line-only-requires
-    returns
-    run-dropped-requires
-    line-only-requires-2
-    returns-2)
+drop-run-change-spec = tie.close (tie.spec drop-refusal-requires run-dropped-requires line-change-requires returns)
