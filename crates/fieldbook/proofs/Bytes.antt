@@ -18,8 +18,8 @@ use Rattle.rules.specs.declared.Stage.{Stage}
 use Rattle.rules.specs.declared.Stage.the-variants.{Fresh, Open, Closed}
 use Rattle.rules.specs.Standing.{isClosed}
 use Rattle.ledger.specs.Plain.{Reading, freshReading, sectionOf, figuresOf}
-use Rattle.textbook.specs.Text.{Refusal, lineRefusals, refusalsFrom, readingAfter}
-use Rattle.fieldbook.specs.Report.{refLine, closedNumbers, pointNumbers, pointLine, openLine, closingLines, resultLines, reportOf, withoutHeading, reportLines, report, tooLong, printedOf}
+use Rattle.textbook.specs.Text.{Refusal, mostText, tooLong, lineRefusals, refusalsFrom, readingAfter}
+use Rattle.fieldbook.specs.Report.{refLine, closedNumbers, pointNumbers, pointLine, openLine, closingLines, resultLines, reportOf, withoutHeading, reportLines, report, printedOf}
 use Rattle.fieldbook.specs.Fits.{ReportFits, PrintedFits}
 use Rattle.fieldbook.proofs.Size.{stageLines, waitingLines, least, lines-count}
 
@@ -123,4 +123,4 @@ printed-fits input n false = go (tooLong (take n input)) refl
   where
     go : (b : Bool) → tooLong (take n input) ≡ b → length (cond b (refLine (record { line = 0; number = 9 })) (report (take n input))) ≤ 65536
     go true e = omega (arith, ref-short (record { line = 0; number = 9 }))
-    go false e = report-fits (take n input) (ltb-false 65268 (length (take n input)) e)
+    go false e = report-fits (take n input) (ltb-false mostText (length (take n input)) e)

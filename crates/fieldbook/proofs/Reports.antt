@@ -36,7 +36,7 @@ use Rattle.ledger.proofs.Entries.{reading-calls, refusals-long}
 use Rattle.textbook.specs.declared.reading.State.{State}
 use Rattle.fieldbook.specs.declared.Reduced.{Reduced}
 use Rattle.fieldbook.specs.declared.Reduced.the-variants.{Written, Refused}
-use Rattle.textbook.specs.Text.{lineEntry, entries, lineRefusals, readingAfter, refusalsFrom, callsOf}
+use Rattle.textbook.specs.Text.{mostText, lineEntry, entries, lineRefusals, readingAfter, refusalsFrom, callsOf}
 use Rattle.fieldbook.specs.Report.{refLine, openLine, closingLines, resultLines, reportOf, withoutHeading, reportLines, report, textTests, textRefusal, bufferAfter, reducedNumber, reducedLength, reducedAs, reducedOf, Reduces, printedFor, printedOf}
 use Rattle.fieldbook.specs.Fits.{closedFits, pointFits}
 use Rattle.textbook.specs.code.State.{read, unread, textState}
@@ -151,7 +151,7 @@ state-printable [] = fresh-printable
 state-printable (l ∷ ls) =
     by-test (same l heading) (λ b. Printable (cond b (read (last ls) (lineRefusals freshReading ls)) unread .book)) (λ b. read-printable ls) (λ b. fresh-printable)
 
-module _ (t : List ℕ) (h : length t ≤ 65268) where
+module _ (t : List ℕ) (h : length t ≤ mostText) where
   pub few-lines : length (lines t) ≤ 777
   unfolding lines
   few-lines = omega (arith, text-lines (length t) t)
@@ -187,25 +187,25 @@ module _ (t d : List ℕ) where
   unfolding textRefusal
   text-lowest = first-lowest (λ n. n) (textTests t d) 0 refl
 
-  pub too-long : 65268 < length t → textRefusal t d ≡ 9
+  pub too-long : mostText < length t → textRefusal t d ≡ 9
   unfolding textRefusal
-  too-long h = rw (lt-ltb 65268 (length t) h)
+  too-long h = rw (lt-ltb mostText (length t) h)
 
-  pub too-small : length t ≤ 65268 → length d < 65536 → textRefusal t d ≡ 10
+  pub too-small : length t ≤ mostText → length d < 65536 → textRefusal t d ≡ 10
   unfolding textRefusal
-  too-small h g = rw (le-ltb 65268 (length t) h, lt-ltb (length d) 65536 g)
+  too-small h g = rw (le-ltb mostText (length t) h, lt-ltb (length d) 65536 g)
 
-  pub not-refused : length t ≤ 65268 → 65536 ≤ length d → textRefusal t d ≡ 0
+  pub not-refused : length t ≤ mostText → 65536 ≤ length d → textRefusal t d ≡ 0
   unfolding textRefusal
-  not-refused h g = rw (le-ltb 65268 (length t) h, le-ltb (length d) 65536 g)
+  not-refused h g = rw (le-ltb mostText (length t) h, le-ltb (length d) 65536 g)
 
 -- ---- the program
 
-pub prints-9 : (t : List ℕ) → 65268 < length t → printedFor t ≡ refusalBytes 0 9
-prints-9 t h = ap (λ (b : Bool). cond b (refusalBytes 0 9) (report t)) (lt-ltb 65268 (length t) h)
+pub prints-9 : (t : List ℕ) → mostText < length t → printedFor t ≡ refusalBytes 0 9
+prints-9 t h = ap (λ (b : Bool). cond b (refusalBytes 0 9) (report t)) (lt-ltb mostText (length t) h)
 
-pub prints-report : (t : List ℕ) → length t ≤ 65268 → printedFor t ≡ report t
-prints-report t h = ap (λ (b : Bool). cond b (refusalBytes 0 9) (report t)) (le-ltb 65268 (length t) h)
+pub prints-report : (t : List ℕ) → length t ≤ mostText → printedFor t ≡ report t
+prints-report t h = ap (λ (b : Bool). cond b (refusalBytes 0 9) (report t)) (le-ltb mostText (length t) h)
 
 module _ (input : List ℕ) (n : ℕ) where
   pub prints-nothing : (failed : Bool) → failed ≡ true → printedOf input n failed ≡ []

@@ -13,11 +13,12 @@ use Rattle.columns.specs.Texts.{lines}
 use Rattle.rules.specs.declared.Stage.the-variants.{Closed}
 use Rattle.rules.specs.Rules.{Call}
 use Rattle.ledger.specs.Plain.{freshReading, after, figuresOf}
+use Rattle.textbook.specs.Text.{mostText}
 use Rattle.fieldbook.specs.Report.{closedNumbers, pointNumbers, reportLines, report, printedOf}
 
 -- a buffer of 65,536 bytes, the smallest that is not refused, has room for every report
 abbrev pub ReportFits : Type 0
-ReportFits = (text : List ℕ) → length text ≤ 65268 → length (report text) ≤ 65536
+ReportFits = (text : List ℕ) → length text ≤ mostText → length (report text) ≤ 65536
 
 -- and so has the program's own, whatever was read
 abbrev pub PrintedFits : Type 0
@@ -25,7 +26,7 @@ PrintedFits = (input : List ℕ) (n : ℕ) (failed : Bool) → length (printedOf
 
 -- every line of a report is whole: its numbers fit their fields
 abbrev pub ReportWhole : Type 0
-ReportWhole = (text : List ℕ) → length text ≤ 65268 → anyOf (λ (l : List ℕ). not (eqb (length l) 84)) (reportLines (lines text)) ≡ false
+ReportWhole = (text : List ℕ) → length text ≤ mostText → anyOf (λ (l : List ℕ). not (eqb (length l) 84)) (reportLines (lines text)) ≡ false
 
 -- ---- fields
 

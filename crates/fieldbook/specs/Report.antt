@@ -18,7 +18,7 @@ use Rattle.rules.specs.Standing.{isClosed}
 use Rattle.ledger.specs.Plain.{Reading, freshReading, figuresOf}
 use Rattle.fieldbook.specs.declared.Reduced.{Reduced}
 use Rattle.fieldbook.specs.declared.Reduced.the-variants.{Written, Refused}
-use Rattle.textbook.specs.Text.{Refusal, lineRefusals, refusalsFrom, readingAfter}
+use Rattle.textbook.specs.Text.{Refusal, tooLong, lineRefusals, refusalsFrom, readingAfter}
 
 -- ---- its lines
 
@@ -71,10 +71,7 @@ report text = joined (reportLines (lines text))
 
 -- ---- the call
 
--- a text above 65,268 bytes, and a buffer below 65,536
-abbrev pub tooLong : List ℕ → Bool
-tooLong text = ltb 65268 (length text)
-
+-- a buffer below 65,536 bytes
 abbrev pub tooSmall : List ℕ → Bool
 tooSmall buffer = ltb (length buffer) 65536
 

@@ -18,13 +18,15 @@ pub fn reduce_text(text: &[u8], report: &mut [u8]) -> Reduced
     ensures { λ r. ⌜ Reduces (now (text .entry)) (now (report .entry)) r ⌝ }
     ensures { λ r. ⌜ now (report .exit) ≡ bufferAfter (now (text .entry)) (now (report .entry)) ⌝ }
 {
-    if 65268 < text.len() {
-        return Reduced::Refused(9);
+    let read = read_text(text);
+    let number = read.number;
+    if number != 0 {
+        return Reduced::Refused(number);
     }
     if report.len() < 65536 {
         return Reduced::Refused(10);
     }
-    Reduced::Written(printing::put_state(report, read_text(text)))
+    Reduced::Written(printing::put_state(report, read.state))
 }
 
 fn number_of(r: Reduced) -> u8

@@ -1,20 +1,22 @@
--- The lines of a text where it is lent, its first line, and the refusals among the numbers of its lines.
+-- The lines of a text where it is lent, its first line, whether it is too long, and the refusals among the numbers of its lines.
 use mathlib.Core.Path.{_≡_, refl, sym, ap, _∙_}
 use mathlib.Core.Bool.{Bool, cond}
 use mathlib.Core.List.{List, [], _∷_, _++_}
 use Prim.Native.Nat.{ℕ, zero, suc, _-_, _*_, _≤_, _<_}
 use native.Mathlib.Omega.{arith}
+use borrow.Author.Tests.{lt-ltb, le-ltb, ltb-true, ltb-false}
 use lib.Dec.{eqb}
 use lib.ListN.{length, drop, replicate, drop-of-length-le}
 use Rattle.numbers.specs.Whole.{filled}
+use Rattle.numbers.proofs.Tests.{by-test, is-true, is-false}
 use Rattle.numbers.proofs.Arrays.{written-none}
 use Rattle.columns.specs.Decimals.{same}
 use Rattle.columns.specs.Lines.{lineWith, heading}
 use Rattle.columns.specs.Texts.{lines}
 use Rattle.columns.proofs.Texts.{lines-next, lines-end}
 use Rattle.textbook.specs.declared.reading.State.{State}
-use Rattle.textbook.specs.Text.{Refusal, refusalsFrom}
-use Rattle.textbook.specs.code.State.{textFrom, lineAt, afterHeading, unread, textState}
+use Rattle.textbook.specs.Text.{Refusal, mostText, tooLong, refusalsFrom}
+use Rattle.textbook.specs.code.State.{textFrom, lineAt, afterHeading, unread, textState, refusedText, textRead}
 
 -- ---- from a line on
 
@@ -43,6 +45,28 @@ first-line (b ∷ t) = ap textState (sym (lines-next (b ∷ t) 0 (omega arith)))
 
 pub by-heading : (t : List ℕ) {b : Bool} → b ≡ same (lineAt t 1) heading → readOr b t ≡ textState (lines t)
 by-heading t e = ap (λ (b : Bool). readOr b t) e ∙ first-line t
+
+-- ---- too long a text, and one that is not
+
+module _ (t : List ℕ) where
+  pub read-long : mostText < length t → textRead t ≡ refusedText
+  read-long h = rw (lt-ltb mostText (length t) h)
+
+  pub read-short : length t ≤ mostText → textRead t ≡ record { number = 0; state = textState (lines t) }
+  read-short h = rw (le-ltb mostText (length t) h)
+
+  -- the other way round, from the number
+  abbrev numberBy : Bool → ℕ
+  numberBy b = cond b refusedText (record { number = 0; state = textState (lines t) }) .number
+
+  pub long-read : 0 < textRead t .number → (mostText < length t) × (textRead t .number ≡ 9)
+  long-read =
+      by-test (tooLong t) (λ b. 0 < numberBy b → (mostText < length t) × (numberBy b ≡ 9)) (λ long h. (ltb-true mostText (length t) (is-true long), refl))
+      (λ short h. absurd (omega arith))
+
+  pub short-read : textRead t .number ≡ 0 → length t ≤ mostText
+  short-read =
+      by-test (tooLong t) (λ b. numberBy b ≡ 0 → length t ≤ mostText) (λ long e. absurd (omega arith)) (λ short e. ltb-false mostText (length t) (is-false short))
 
 -- ---- the refusals among the numbers
 

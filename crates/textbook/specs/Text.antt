@@ -1,13 +1,21 @@
 -- The text book, read over the plain reading: what a line of it means is told by its record (document 01, 'The text book and the report').
-use mathlib.Core.Bool.{cond}
+use mathlib.Core.Bool.{Bool, cond}
 use mathlib.Core.List.{List, [], _∷_, _++_, map}
 use Prim.Native.Nat.{ℕ, suc}
-use lib.Dec.{eqb}
+use lib.ListN.{length}
+use lib.Dec.{eqb, ltb}
 use Rattle.columns.specs.Records.{lineIn}
 use Rattle.rules.specs.Rules.{Call}
 use Rattle.ledger.specs.Plain.{Reading}
 use Rattle.ledger.specs.Entries as Entries
 use Rattle.ledger.specs.Entries.{Entry, entryOf, entryRefusals, afterEntries}
+
+-- the bytes of the longest text: 777 lines of 84
+abbrev pub mostText : ℕ
+mostText = 65268
+
+abbrev pub tooLong : List ℕ → Bool
+tooLong text = ltb mostText (length text)
 
 -- ---- the lines after the first
 

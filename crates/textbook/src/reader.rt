@@ -2,7 +2,7 @@
 // is in `reading`.
 ghost use mathlib.Core.Path.{_≡_};
 ghost use Rattle.columns.specs.Texts.{lines};
-ghost use Rattle.textbook.specs.code.State.{textFrom, textState};
+ghost use Rattle.textbook.specs.code.State.{textFrom, textState, textRead};
 use super::reading::State;
 use super::reading::read_from;
 
@@ -10,6 +10,12 @@ use super::reading::read_from;
 pub(crate) struct Reader<'a> {
     text: &'a [u8],
     line: usize,
+}
+
+// Document 01's number, 9 where a text is too long and 0 otherwise, and what the text leaves.
+pub struct TextRead {
+    pub number: u8,
+    pub state: State,
 }
 
 // Before the first line.
@@ -26,10 +32,23 @@ fn read_rest<'a>(r: Reader<'a>) -> State
     read_from(r.text, r.line)
 }
 
-// What a text leaves: the plain reading of its lines. Refusal numbers of lines past 777 are left out: who reads longer texts tests 9 first, as `reduce_text`
-// does.
-pub fn read_text(text: &[u8]) -> State
+// The same from line 1 on.
+fn read_all(text: &[u8]) -> State
     ensures { λ r. ⌜ r ≡ textState (lines (now (text .entry))) ⌝ }
 {
     read_rest(start(text))
+}
+
+// What a text leaves: the plain reading of its lines. Of a text that is too long no line is read.
+pub fn read_text(text: &[u8]) -> TextRead
+    ensures { λ r. ⌜ r ≡ textRead (now (text .entry)) ⌝ }
+{
+    if 65268 < text.len() {
+        let book = book::fresh();
+        let refusals = [0u8; 778];
+        let state = State { book, refusals };
+        return TextRead { number: 9, state };
+    }
+    let state = read_all(text);
+    TextRead { number: 0, state }
 }

@@ -7,6 +7,7 @@ use native.Mathlib.Omega.{arith}
 use lib.ListN.{length, take, length-take}
 use Rattle.numbers.specs.Whole.{putAt}
 use Rattle.numbers.proofs.Arrays.{put-none}
+use Rattle.textbook.specs.Text.{mostText}
 use Rattle.fieldbook.specs.declared.Reduced.{Reduced}
 use Rattle.fieldbook.specs.Report.{report, reducedLength}
 use Rattle.fieldbook.specs.code.Printed.{refusalBytes}
@@ -28,7 +29,7 @@ returns-2 : tie.Need-returns-2
 returns-2 c =
     let s = c .before .before .before .before .before in
     let t = take (s .args .count) (s .args .input .now) in
-    let long : 65268 < length t = omega (arith, length-take (s .args .count) (s .args .input .now)) in
+    let long : mostText < length t = omega (arith, length-take (s .args .count) (s .args .input .now)) in
     let e = prints-text (s .args .input .now) (s .args .count) (s .args .failed) (refusalBytes 0 9) (c .before .before .before .before .if1 .left) (prints-9 t long) in (
       c .put-refusal .ensures .0 ∙ zero-add (length (refusalBytes 0 9)) ∙ ap length (sym e),
       c .put-refusal .ensures .1 ∙ ap (putAt (s .args .out .now) 0) (sym e),
@@ -51,7 +52,7 @@ returns-3 c =
     let s = r .before .before .before .before .before .before in
     let t = take (s .args .count) (s .args .input .now) in
     let d = s .args .out .now in
-    let short : length t ≤ 65268 = omega (arith, length-take (s .args .count) (s .args .input .now)) in
+    let short : length t ≤ mostText = omega (arith, length-take (s .args .count) (s .args .input .now)) in
     let room : 65536 ≤ length d = omega arith in
     let e = prints-text (s .args .input .now) (s .args .count) (s .args .failed) (report t) (r .before .before .before .before .before .if1 .left) (prints-report t short) in
     let a = answered t d 0 (not-refused t d short room) in (

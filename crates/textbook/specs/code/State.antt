@@ -6,11 +6,13 @@ use lib.ListN.{take, drop}
 use Rattle.numbers.specs.Whole.{filled}
 use Rattle.columns.specs.Decimals.{same}
 use Rattle.columns.specs.Lines.{heading}
+use Rattle.columns.specs.Texts.{lines}
 use Rattle.rules.specs.Standing.{bookWith}
 use Rattle.book.specs.Calls.{freshBook}
 use Rattle.ledger.specs.Plain.{Reading, freshReading, standing}
+use Rattle.textbook.specs.declared.reader.TextRead.{TextRead}
 use Rattle.textbook.specs.declared.reading.State.{State}
-use Rattle.textbook.specs.Text.{lineRefusals, readingAfter}
+use Rattle.textbook.specs.Text.{tooLong, lineRefusals, readingAfter}
 
 -- ---- lines of a text, counted from 1
 
@@ -28,7 +30,7 @@ lineCount n = (n + 83) / 84
 
 -- ---- states
 
--- the book holds the reading r, and the lines after the heading have the refusal numbers ns; numbers past the last place are left out
+-- the book holds the reading r, and the lines after the heading have the refusal numbers ns, which all have a place where the text is not too long
 abbrev pub read : Reading → List ℕ → State
 read r ns = record { book = bookWith freshBook (standing r); refusals = filled 0 778 (0 ∷ 0 ∷ ns) }
 
@@ -43,3 +45,12 @@ unread = record { book = freshBook; refusals = filled 0 778 (0 ∷ 1 ∷ []) }
 abbrev pub textState : List (List ℕ) → State
 textState [] = unread
 textState (l ∷ ls) = cond (same l heading) (afterHeading ls) unread
+
+-- ---- the call
+
+-- 9, and no line is read
+abbrev pub refusedText : TextRead
+refusedText = record { number = 9; state = record { book = freshBook; refusals = filled 0 778 [] } }
+
+abbrev pub textRead : List ℕ → TextRead
+textRead text = cond (tooLong text) refusedText (record { number = 0; state = textState (lines text) })
