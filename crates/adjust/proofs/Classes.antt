@@ -3,7 +3,7 @@ use Prim.Native.Nat.{_*_, _≤_, _<_}
 use native.Mathlib.Omega.{arith}
 use lib.IntN.{natAbs}
 use Rattle.adjust.specs.declared.terms.Class.{Class}
-use Rattle.adjust.specs.declared.terms.Class.the-variants.{Third, Fourth}
+use Rattle.adjust.specs.declared.terms.Class.the-variants.{Third, Fourth, Spur}
 use Rattle.adjust.specs.declared.terms.Terms.{Terms}
 use Rattle.adjust.specs.Sizes.{mostR, mostD, mostAllowed}
 use Rattle.adjust.specs.Terms.{termsOf}
@@ -17,3 +17,4 @@ pub record Row (t : Terms) : Type 0 where
 pub row : (o : Class) → Row (termsOf o)
 row Third = record { some = omega arith; apart = omega arith; accidental = omega arith }
 row Fourth = record { some = omega arith; apart = omega arith; accidental = omega arith }
+row Spur = record { some = omega arith; apart = omega arith; accidental = omega arith }

@@ -1,19 +1,21 @@
 -- A line adjusted between two known heights is sound: the corrections use up the closure, the last height is the known one, and each height
--- and each correction is near the exact one. First for any frame, in any units; then for the sections of a line at least 1 long.
+-- and each correction is near the exact one. First for any frame, in any units; then for the sections of a line at least 1 long. Last a line without a closure.
 use mathlib.Core.Path.{_≡_, refl, sym, ap, ap₂, subst, _∙_}
-use mathlib.Core.List.{List, [], _∷_}
+use mathlib.Core.List.{List, [], _∷_, map}
 use Prim.Native.Nat.{ℕ, _+_, _*_, _≤_, _<_}
 use native.Mathlib.Omega.{arith}
 use lib.IntN.{ℤ, pos, negℤ, natAbs, _+ℤ_, _-ℤ_, _*ℤ_, +ℤ-idr, +ℤ-assoc, +ℤ-invr, *ℤ-zero, zero-*ℤ}
 use lib.Signed.{_≤ℤ_}
-use Rattle.numbers.proofs.Ring.{ringℤ}
+use Rattle.numbers.proofs.Ring.{ringℤ, one-mulℤ}
 use Rattle.numbers.proofs.Parts.{ints, parts-times, parts-abs, pos-abs}
-use Rattle.numbers.proofs.Sizes.{abs-sub}
+use Rattle.numbers.proofs.Sizes.{abs-sub, abs-mul}
 use Rattle.roots.specs.Round.{roundEven}
-use Rattle.roots.proofs.RoundLaws.{round-is, round-exact}
+use Rattle.roots.proofs.RoundLaws.{round-is, round-exact, round-scale}
+use Rattle.adjust.specs.declared.Opening.{Opening}
 use Rattle.adjust.specs.declared.Section.{Section}
-use Rattle.adjust.specs.Line.{Frame, frameOf, lineLength, lineHeight, exactTop, printedHeight, pointsAfter, sectionPoints}
-use Rattle.adjust.specs.Claims.{Near, no-section, next-section, Sound, corrections, lastHeight}
+use Rattle.adjust.specs.declared.Point.{Point}
+use Rattle.adjust.specs.Line.{Frame, frame, frameOf, lineFrame, lineLength, lineHeight, exactTop, printedHeight, pointsAfter, sectionPoints}
+use Rattle.adjust.specs.Claims.{Near, no-section, next-section, Sound, corrections, lastHeight, rawHeights}
 
 -- ---- identities
 
@@ -105,6 +107,9 @@ module _ (f : Frame) (d : 0 < natAbs (f .units *ℤ f .total)) (e : pos (natAbs 
   at-start : exactTop f (pos 0) (pos 0) ≡ f .units *ℤ f .total *ℤ (f .prints *ℤ f .start)
   at-start = exact-start (f .units) (f .prints) (f .start) (f .total) (f .closure)
 
+  pub frame-near : (ss : List Section) → Near f (pos 0) (pos 0) ss (sectionPoints f ss)
+  frame-near ss = near-after (pos 0) (pos 0) (f .prints *ℤ f .start) ss (zero-off (f .units *ℤ f .total) (f .prints *ℤ f .start) _ at-start)
+
   -- ---- and whose W and L are those of the sections, up to the known height `end`
 
   module _ (end : ℤ) (ss : List Section) (w : f .closure ≡ f .units *ℤ f .start +ℤ lineHeight ss -ℤ f .units *ℤ end) (t : f .total ≡ lineLength ss) where
@@ -127,14 +132,54 @@ module _ (f : Frame) (d : 0 < natAbs (f .units *ℤ f .total)) (e : pos (natAbs 
               ∙ all-spent (f .units) (f .prints) (f .start) (lineHeight ss) end
               ∙ ap (λ (z : ℤ). negℤ (f .prints *ℤ z)) (sym w);
           last = last-known;
-          near = near-after (pos 0) (pos 0) (f .prints *ℤ f .start) ss (zero-off (f .units *ℤ f .total) (f .prints *ℤ f .start) _ at-start);
+          near = frame-near ss;
         }
 
 -- ---- the sections of a line at least 1 long
 
-pub line-sound : (start end : ℤ) (ss : List Section) → pos 1 ≤ℤ lineLength ss → Sound (frameOf start end ss) end ss (sectionPoints (frameOf start end ss) ss)
-line-sound start end ss h =
-    frame-sound (frameOf start end ss) (omega (ints, parts-times 4 (lineLength ss), parts-abs (pos 4 *ℤ lineLength ss))) (pos-abs long) end ss refl refl
+module _ (ss : List Section) (h : pos 1 ≤ℤ lineLength ss) where
+  some : 0 < natAbs (pos 4 *ℤ lineLength ss)
+  some = omega (ints, parts-times 4 (lineLength ss), parts-abs (pos 4 *ℤ lineLength ss))
+
+  whole : pos (natAbs (pos 4 *ℤ lineLength ss)) ≡ pos 4 *ℤ lineLength ss
+  whole = let long : pos 0 ≤ℤ (pos 4 *ℤ lineLength ss) = omega (ints, parts-times 4 (lineLength ss)) in pos-abs long
+
+  pub line-sound : (start end : ℤ) → Sound (frameOf start end ss) end ss (sectionPoints (frameOf start end ss) ss)
+  line-sound start end = frame-sound (frameOf start end ss) some whole end ss refl refl
+
+  -- whatever its class
+  pub line-near : (o : Opening) (end : ℤ) → Near (lineFrame o end ss) (pos 0) (pos 0) ss (sectionPoints (lineFrame o end ss) ss)
+  line-near o end = frame-near (lineFrame o end ss) some whole ss
+
+-- ---- a line without a closure
+
+-- the exact height without a closure is the start's with the running Q, at every distance
+raw-top : (u b l q s : ℤ) → pos 1 *ℤ (u *ℤ b *ℤ l +ℤ q *ℤ l -ℤ pos 0 *ℤ s) ≡ l *ℤ (u *ℤ b +ℤ q)
+raw-top u b l q s = one-mulℤ (u *ℤ b *ℤ l +ℤ q *ℤ l -ℤ pos 0 *ℤ s) ∙ ap (λ (z : ℤ). u *ℤ b *ℤ l +ℤ q *ℤ l -ℤ z) (zero-*ℤ s) ∙ +ℤ-idr (u *ℤ b *ℤ l +ℤ q *ℤ l) ∙ factor u b l q
   where
-    long : pos 0 ≤ℤ (pos 4 *ℤ lineLength ss)
-    long = omega (ints, parts-times 4 (lineLength ss))
+    factor : (u b l q : ℤ) → u *ℤ b *ℤ l +ℤ q *ℤ l ≡ l *ℤ (u *ℤ b +ℤ q)
+    factor u b l q = simp ringℤ
+
+module _ (b l : ℤ) (h : pos 1 ≤ℤ l) where
+  abbrev raw : Frame
+  raw = frame b (record { closure = pos 0; distance = l })
+
+  raw-printed : (q s : ℤ) → printedHeight raw q s ≡ roundEven (pos 4 *ℤ b +ℤ q) 4
+  raw-printed q s =
+      let whole : pos (natAbs l) ≡ l = pos-abs (omega ints) in
+      (λ i. roundEven ((raw-top (pos 4) b l q s ∙ ap (λ (z : ℤ). z *ℤ (pos 4 *ℤ b +ℤ q)) (sym whole)) i) (four i))
+      ∙ round-scale (pos 4 *ℤ b +ℤ q) 4 (natAbs l) (omega arith) (omega (ints, parts-abs l))
+    where
+      four : natAbs (pos 4 *ℤ l) ≡ natAbs l * 4
+      four = omega (arith, abs-mul (pos 4) l)
+
+  raw-after : (q s g : ℤ) (xs : List Section) → map (λ (p : Point). p .height) (pointsAfter raw q s g xs) ≡ rawHeights (pos 4 *ℤ b +ℤ q) xs
+  raw-after q s g [] = refl
+  raw-after q s g (x ∷ xs) =
+      let q₂ : ℤ = q +ℤ x .height in
+      let s₂ : ℤ = s +ℤ x .distance in
+      let m = sym (+ℤ-assoc (pos 4 *ℤ b) q (x .height)) in
+      λ i. (raw-printed q₂ s₂ ∙ ap (λ (z : ℤ). roundEven z 4) m) i ∷ (raw-after q₂ s₂ (printedHeight raw q₂ s₂) xs ∙ ap (λ (z : ℤ). rawHeights z xs) m) i
+
+  pub raw-heights : (ss : List Section) → map (λ (p : Point). p .height) (sectionPoints raw ss) ≡ rawHeights (pos 4 *ℤ b) ss
+  raw-heights ss = raw-after (pos 0) (pos 0) (pos 1 *ℤ b) ss ∙ ap (λ (z : ℤ). rawHeights z ss) (+ℤ-idr (pos 4 *ℤ b))

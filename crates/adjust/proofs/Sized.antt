@@ -17,10 +17,12 @@ use Rattle.numbers.proofs.Chain.{plain, literal, add, sub, mul}
 use Rattle.adjust.specs.declared.Opening.{Opening}
 use Rattle.adjust.specs.declared.Section.{Section}
 use Rattle.adjust.specs.declared.Sections.{Sections}
+use Rattle.adjust.specs.declared.Totals.{Totals}
+use Rattle.adjust.specs.declared.terms.Terms.{Terms}
 use Rattle.adjust.specs.declared.LineTotals.the-variants.{Totalled, NotTotalled}
-use Rattle.adjust.specs.Sizes.{highest, mostQ, mostR, mostSumQ}
+use Rattle.adjust.specs.Sizes.{highest, mostQ, mostR, mostSumQ, mostW}
 use Rattle.adjust.specs.Sections.{sectionsOf, anyOutside, misfit, heightInRange}
-use Rattle.adjust.specs.Line.{lineHeight, lineLength, totals, closing}
+use Rattle.adjust.specs.Line.{lineHeight, lineLength, totals, totalsBy, closing}
 use Rattle.adjust.specs.Frames.{figuresFit, lineTotals, adjustedOf, notAdjusted, lineFigures}
 use Rattle.adjust.specs.Call.{adjustTests, adjustRefusal}
 use Rattle.adjust.specs.code.Bounds.{Fitted, Between, Framed}
@@ -56,6 +58,14 @@ module _ {start end : ℤ} {s : Sections} (b : Between start end s) where
         distance = omega (arith, n, length-size (sectionsOf s) (b .fits .legs), b .fits .few);
         long = omega (ints, n, long (sectionsOf s) (b .fits .legs), b .some);
       }
+
+-- and by its class
+pub framed-by : (terms : Terms) {start : ℤ} {t : Totals} → Framed start t → Framed start (totalsBy terms t)
+framed-by terms {start} {t} f = record { height = f .height; closure = smaller (terms .tied); distance = f .distance; long = f .long }
+  where
+    smaller : (known : Bool) → natAbs (cond known (t .closure) (pos 0)) ≤ mostW
+    smaller true = f .closure
+    smaller false = omega arith
 
 -- ---- figures that fit
 

@@ -1,4 +1,4 @@
--- A line between two known heights: L, W, the exact and the printed heights, the corrections, and the accidental error (document 01, 'Closure, corrections, heights').
+-- A line from a known height: L, W, the exact and the printed heights, the corrections, and the accidental error (document 01, 'Closure, corrections, heights').
 use mathlib.Core.Bool.{cond, not, _||_}
 use mathlib.Core.List.{List, [], _∷_, map}
 use Prim.Native.Nat.{ℕ}
@@ -31,6 +31,10 @@ closure start end ss = pos 4 *ℤ start +ℤ lineHeight ss -ℤ pos 4 *ℤ end
 abbrev pub totals : ℤ → ℤ → List Section → Totals
 totals start end ss = record { closure = closure start end ss; distance = lineLength ss }
 
+-- W and L of a line by its class: where the end is not known, W is 0 (document 02, W-202)
+abbrev pub totalsBy : Terms → Totals → Totals
+totalsBy terms t = record { closure = cond (terms .tied) (t .closure) (pos 0); distance = t .distance }
+
 -- ---- heights
 
 -- what the heights of a line are computed from
@@ -52,6 +56,10 @@ frame start t = record { units = pos 4; prints = pos 1; start = start; closure =
 
 abbrev pub frameOf : ℤ → ℤ → List Section → Frame
 frameOf start end ss = frame start (totals start end ss)
+
+-- of a line opened as o, up to its end height, which is a placeholder where the end is not known
+abbrev pub lineFrame : Opening → ℤ → List Section → Frame
+lineFrame o end ss = frame (o .start .height) (totalsBy (termsOf (o .class)) (totals (o .start .height) end ss))
 
 -- the exact height at running sums q (of Q) and s (of R) is exactTop / (units × total) print units
 abbrev pub exactTop : Frame → ℤ → ℤ → ℤ
@@ -102,7 +110,7 @@ pub record Closing : Type 0 where
 
 abbrev pub closing : Opening → ℤ → List Section → Closing
 closing o end ss =
-    let f : Frame = frameOf (o .start .height) end ss in
+    let f : Frame = lineFrame o end ss in
     let terms : Terms = termsOf (o .class) in
     let t : ℤ = accidentalSum terms ss in
     record {

@@ -128,7 +128,7 @@ fn closing_of(opening: Opening, end: i64, s: Sections) -> LineFigures
     let class = opening.class;
     let start = opening.start;
     let terms = terms::terms_of(class);
-    let t = sums::totals_between(start.height, end, s);
+    let t = sums::totals_by(terms, sums::totals_between(start.height, end, s));
     let accidental = accidental::accidental_sum(terms, s);
     let verdict = accidental::verdict_of(terms, s.count, accidental);
     let points = heights::points_of(start.height, t, start.number, s);

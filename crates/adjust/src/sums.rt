@@ -2,12 +2,13 @@
 ghost use mathlib.Core.Path.{_≡_};
 ghost use lib.IntN.{_+ℤ_};
 ghost use Rattle.adjust.specs.Sections.{sectionsOf};
-ghost use Rattle.adjust.specs.Line.{lineHeight, lineLength, totals};
+ghost use Rattle.adjust.specs.Line.{lineHeight, lineLength, totals, totalsBy};
 ghost use Rattle.adjust.specs.code.Bounds.{Fits, Between, LegBounds, Summed};
 use super::Section;
 use super::Sections;
 use super::Totals;
 use super::table::section_at;
+use super::terms::Terms;
 
 struct Sums {
     height: i64,
@@ -49,6 +50,19 @@ pub(crate) fn totals_between(start: i64, end: i64, s: Sections) -> Totals
     let t = sums_of(s);
     Totals {
         closure: 4 * start + t.height - 4 * end,
+        distance: t.distance,
+    }
+}
+
+// The same by the class of line: where the end is not known, W is 0.
+pub(crate) fn totals_by(terms: Terms, t: Totals) -> Totals
+    ensures { λ r. ⌜ r ≡ totalsBy terms t ⌝ }
+{
+    if terms.tied {
+        return t;
+    }
+    Totals {
+        closure: 0,
         distance: t.distance,
     }
 }

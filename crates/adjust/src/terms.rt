@@ -4,9 +4,11 @@ ghost use Rattle.adjust.specs.Terms.{orderOf, termsOf};
 use station::Order;
 
 // What a line is opened as.
+// A spur is of fourth order, levelled out and back from a known height to an end that is not known.
 pub enum Class {
     Third,
     Fourth,
+    Spur,
 }
 
 // A root limit: x is within the root of l where a × x² ≤ b × l.
@@ -18,6 +20,8 @@ pub struct Root {
 pub struct Terms {
     // Whether sections are levelled out and back, by double levelling: 'the first ended run waits; the second is its return'. Where not, 'an ended run is a section'.
     pub double: bool,
+    // Whether the line is tied to a known height at its end, and so has a closure.
+    pub tied: bool,
     // D, in half mm, against R, in half dm: 'D is within 12 √km'.
     pub apart: Root,
     // W, in quarter mm, against L, in half dm: 'third order (12 √km)', 'fourth (20 √km)'.
@@ -37,6 +41,7 @@ pub fn order_of(class: Class) -> Order
     match class {
         Class::Third => Order::Third,
         Class::Fourth => Order::Fourth,
+        Class::Spur => Order::Fourth,
     }
 }
 
@@ -47,6 +52,7 @@ pub fn terms_of(class: Class) -> Terms
     match class {
         Class::Third => Terms {
             double: true,
+            tied: true,
             apart: Root { a: 625, b: 18 },
             closing: Root { a: 625, b: 72 },
             longest: 3000000,
@@ -56,11 +62,22 @@ pub fn terms_of(class: Class) -> Terms
         // sections of one run have no D and no T: `apart` is never looked at, and there is no verdict
         Class::Fourth => Terms {
             double: false,
+            tied: true,
             apart: Root { a: 625, b: 18 },
             closing: Root { a: 25, b: 8 },
             longest: 1600000,
             circuit: 2000000,
             accidental: 0,
+        },
+        // there is no closure and no limit of length: `closing`, `longest` and `circuit` are never looked at
+        Class::Spur => Terms {
+            double: true,
+            tied: false,
+            apart: Root { a: 25, b: 2 },
+            closing: Root { a: 25, b: 8 },
+            longest: 1600000,
+            circuit: 2000000,
+            accidental: 10000,
         },
     }
 }

@@ -5,7 +5,7 @@ use mathlib.Core.List.{List, [], _∷_}
 use Prim.Native.Nat.{ℕ}
 use lib.Dec.{eqb}
 use lib.ListN.{length}
-use lib.IntN.{ℤ}
+use lib.IntN.{ℤ, pos}
 use Rattle.numbers.specs.Whole.{filled}
 use Rattle.numbers.proofs.Tests.{or-l, or-r, not-false}
 use Rattle.numbers.proofs.Tables.{failed, number-cond, nonzero-cond, cond-of}
@@ -15,7 +15,7 @@ use Rattle.adjust.specs.Line.{Closing}
 use Rattle.adjust.specs.Frames.{noPoint, figuresFit}
 use Rattle.rules.specs.declared.Book.{Book}
 use Rattle.rules.specs.Standing.{standingOf, isClosed, isEmpty, isReturn, lineBroken}
-use Rattle.rules.specs.Rules.{Call, close-line, brokenIn, figuresTests, bookRefusal}
+use Rattle.rules.specs.Rules.{Call, close-line, close-spur, brokenIn, figuresTests, bookRefusal}
 use Rattle.rules.proofs.Tables.{book-fails}
 use Rattle.rules.proofs.Unbroken.{unbroken, some-long, closed-some}
 use Rattle.book.specs.declared.CloseAnswer.the-variants.{Closed, NotClosed}
@@ -74,6 +74,12 @@ module _ (b : Book) where
   closing-fits number end taken =
       let test = book-fails (standingOf b) (close-line number end) taken in
       in-range end (test 20) (or-r (not (eqb (b .line .present .count) 0) || isReturn (b .line .waiting)) (isEmpty ss) (test 33)) (not-false (heightInRange end) (test 5))
+
+  -- of a spur's, whose end height stays a placeholder
+  pub spur-fits : (number : ℤ) → bookRefusal (standingOf b) (close-spur number) ≡ 0 → figuresFit (b .line .opening .start .height) (pos 0) ss ≡ true
+  spur-fits number taken =
+      let test = book-fails (standingOf b) (close-spur number) taken in
+      in-range (pos 0) (test 20) (or-r (not (eqb (b .line .present .count) 0) || isReturn (b .line .waiting)) (isEmpty ss) (test 33)) refl
 
   -- of a closed book
   pub closed-fits : figuresRefusal b ≡ 0 → figuresFit (b .line .opening .start .height) (b .line .end) ss ≡ true

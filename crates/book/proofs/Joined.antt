@@ -26,7 +26,7 @@ use Rattle.rules.specs.declared.Book.{Book}
 use Rattle.rules.specs.declared.Waiting.{Waiting}
 use Rattle.rules.specs.declared.Waiting.the-variants.{Nothing, Outward}
 use Rattle.rules.specs.Standing.{Standing, standingOf, bookWith, isFresh, isEmpty, isReturn, outwardOrReturn, noRun, oneWay, bothWays}
-use Rattle.rules.specs.Rules.{Call, open-line, station, end-run, drop-run, drop-section, close-line, withRuns, withSection, bookRefusal, taken}
+use Rattle.rules.specs.Rules.{Call, open-line, station, end-run, drop-run, drop-section, close-line, open-spur, close-spur, withRuns, withSection, bookRefusal, taken}
 use Rattle.rules.proofs.Tables.{book-fails, line-whole}
 use Rattle.rules.proofs.Unbroken.{SmallWaiting, Unbroken, unbroken, fresh-none}
 use Rattle.rules.proofs.Looked.{counted-broken}
@@ -123,6 +123,11 @@ module _ (b : Book) (w : Whole (b .sections)) where
       ended number (b .line .waiting) (termsOf (b .line .opening .class) .double) (room (b .line .waiting) (whole-line b (end-run number) e .waiting) (book-fails (standingOf b) (end-run number) e 31))
   effect drop-run e = line-alone (taken (standingOf b) drop-run) (whole-line b drop-run e .few) refl
   effect drop-section e = line-alone (taken (standingOf b) drop-section) (whole-line b drop-section e .few) refl
+  effect (open-spur order instrument number height) e =
+      let c = open-spur order instrument number height in
+      let fresh = not-false (isFresh (b .line .stage)) (book-fails (standingOf b) c e 21) in
+      line-alone (taken (standingOf b) c) (whole-line b c e .few) (fresh-none (b .line) ss (line-whole (standingOf b) c e) fresh)
+  effect (close-spur number) e = line-alone (taken (standingOf b) (close-spur number)) (whole-line b (close-spur number) e .few) refl
   effect (close-line number end) e = line-alone (taken (standingOf b) (close-line number end)) (whole-line b (close-line number end) e .few) refl
 
   pub made : (c : Call) → changed b (changeOf b c) ≡ bookAfter b c
@@ -148,6 +153,10 @@ pub open-as : {order instrument number height : ℤ} → SFits w64 order → SFi
     → open-line (stored order) (stored instrument) (stored number) (stored height) ≡ open-line order instrument number height
 open-as o k n h = λ i. open-line (stored-id o i) (stored-id k i) (stored-id n i) (stored-id h i)
 
+pub spur-as : {order instrument number height : ℤ} → SFits w64 order → SFits w64 instrument → SFits w64 number → SFits w64 height
+    → open-spur (stored order) (stored instrument) (stored number) (stored height) ≡ open-spur order instrument number height
+spur-as o k n h = λ i. open-spur (stored-id o i) (stored-id k i) (stored-id n i) (stored-id h i)
+
 pub station-as : {kb kf : ℤ} (readings : List (List ℤ)) → SFits w64 kb → SFits w64 kf → station (stored kb) (stored kf) readings ≡ station kb kf readings
 station-as readings b f = stored-both (λ kb kf. station kb kf readings) b f
 
@@ -156,6 +165,9 @@ end-as n = ap end-run (stored-id n)
 
 pub close-as : {number end : ℤ} → SFits w64 number → SFits w64 end → close-line (stored number) (stored end) ≡ close-line number end
 close-as n e = stored-both close-line n e
+
+pub close-spur-as : {number : ℤ} → SFits w64 number → close-spur (stored number) ≡ close-spur number
+close-spur-as n = ap close-spur (stored-id n)
 
 -- one without numbers
 pub plain : (c : Call) → c ≡ c

@@ -1,7 +1,7 @@
 // The calls of a book. Each gives its answer and the book after it; a refused call leaves the very book.
 ghost use mathlib.Core.Path.{_≡_};
 ghost use Rattle.adjust.specs.Call.{answerOf};
-ghost use Rattle.rules.specs.Rules.{open-line, station, end-run, drop-run, drop-section, close-line};
+ghost use Rattle.rules.specs.Rules.{open-line, station, end-run, drop-run, drop-section, close-line, open-spur, close-spur};
 ghost use mathlib.Core.Bool.{true};
 ghost use mathlib.Core.List.{[]};
 ghost use Rattle.numbers.specs.Whole.{filled};
@@ -83,6 +83,14 @@ pub fn open(b: Book, order: i64, instrument: i64, number: i64, height: i64) -> O
 {
     let v = [order, instrument, number, height, 0, 0, 0, 0, 0, 0];
     outcome_of(take(b, Tag::Lin, v))
+}
+
+// Open a spur, levelled out and back from the start to an end that is not known: order 4, else as a line.
+pub fn open_spur(b: Book, order: i64, instrument: i64, number: i64, height: i64) -> Outcome
+    ensures { λ r. ⌜ Answers b (open-spur order instrument number height) r ⌝ }
+{
+    let v = [order, instrument, number, height, 0, 0, 0, 0, 0, 0];
+    outcome_of(take(b, Tag::Spr, v))
 }
 
 // A station: the constants and the readings, back and fore.
@@ -185,6 +193,14 @@ pub fn close_line(b: Book, number: i64, end: i64) -> CloseOutcome
 {
     let s = take(b, Tag::End, [number, end, 0, 0, 0, 0, 0, 0, 0, 0]);
     closed_by(b, s, end)
+}
+
+// Close the spur on its last benchmark. There is no closure, and the heights are not corrected but rounded.
+pub fn close_spur(b: Book, number: i64) -> CloseOutcome
+    ensures { λ r. ⌜ Closes b (close-spur number) r ⌝ }
+{
+    let s = take(b, Tag::Fin, [number, 0, 0, 0, 0, 0, 0, 0, 0, 0]);
+    closed_by(b, s, 0)
 }
 
 // The figures of a closed book once more. A book that is not closed is refused with 21, a broken one with 20.

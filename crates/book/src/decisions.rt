@@ -3,11 +3,12 @@ ghost use mathlib.Core.Path.{_≡_};
 ghost use Rattle.records.specs.declared.Tag.the-variants.{Sta};
 ghost use Rattle.rules.specs.Standing.{bookIn, standingIn};
 ghost use Rattle.rules.specs.code.Seen.{numbersIn, beside};
-ghost use Rattle.rules.specs.Rules.{open-line, station, end-run, drop-run, drop-section, close-line, bookRefusal};
+ghost use Rattle.rules.specs.Rules.{open-line, station, end-run, drop-run, drop-section, close-line, open-spur, close-spur, bookRefusal};
 ghost use Rattle.rules.specs.Records.{callOf};
 ghost use Rattle.book.specs.code.Changes.{lineOnly, lineChange, changeBy, changeOf};
 use super::Change;
 use super::effects::begun;
+use super::effects::class_of;
 use super::effects::closed;
 use super::effects::opening_of;
 use super::effects::run_dropped;
@@ -15,12 +16,15 @@ use super::effects::run_ended;
 use super::effects::section_dropped;
 use super::effects::with_station;
 use adjust::Section;
+use adjust::terms::Class;
 use records::Tag;
 use rules::Line;
 use rules::closing::close_refusal;
+use rules::closing::close_spur_refusal;
 use rules::refusals::drop_refusal;
 use rules::refusals::end_refusal;
 use rules::refusals::open_refusal;
+use rules::refusals::spur_refusal;
 use rules::refusals::station_refusal;
 use station::Readings;
 
@@ -66,7 +70,25 @@ fn open_change(
     line_change(
         code,
         line,
-        begun(opening_of(order, instrument, number, height)),
+        begun(opening_of(class_of(order), instrument, number, height)),
+    )
+}
+
+fn spur_change(
+    line: Line,
+    count: usize,
+    order: i64,
+    instrument: i64,
+    number: i64,
+    height: i64,
+) -> Change
+    ensures { λ r. ⌜ r ≡ changeBy (bookRefusal (beside line count) (open-spur order instrument number height)) line (open-spur order instrument number height) ⌝ }
+{
+    let code = spur_refusal(line, count, order, instrument, number, height);
+    line_change(
+        code,
+        line,
+        begun(opening_of(Class::Spur, instrument, number, height)),
     )
 }
 
@@ -149,6 +171,29 @@ fn close_change<'a>(
     line_change(code, line, closed(line, end))
 }
 
+fn close_spur_change<'a>(
+    line: Line,
+    count: usize,
+    numbers: &'a [i64; 64],
+    heights: &'a [i64; 64],
+    distances: &'a [i64; 64],
+    discrepancies: &'a [i64; 64],
+    number: i64,
+) -> Change
+    ensures { λ r. ⌜ r ≡ changeBy (bookRefusal (standingIn line count (now (numbers .entry)) (now (heights .entry)) (now (distances .entry)) (now (discrepancies .entry))) (close-spur number)) line (close-spur number) ⌝ }
+{
+    let code = close_spur_refusal(
+        line,
+        count,
+        numbers,
+        heights,
+        distances,
+        discrepancies,
+        number,
+    );
+    line_change(code, line, closed(line, 0))
+}
+
 // Of the record with this tag and these numbers. No list is written, and none is copied but those of a line that is closed.
 pub fn decide<'a>(
     line: Line,
@@ -177,6 +222,16 @@ pub fn decide<'a>(
             discrepancies,
             v[0],
             v[1],
+        ),
+        Tag::Spr => spur_change(line, count, v[0], v[1], v[2], v[3]),
+        Tag::Fin => close_spur_change(
+            line,
+            count,
+            numbers,
+            heights,
+            distances,
+            discrepancies,
+            v[0],
         ),
     }
 }

@@ -51,7 +51,7 @@ fn with_runs(line: Line, waiting: Waiting, present: Run) -> Line
 
 // ---- open
 
-fn class_of(n: i64) -> Class
+pub(crate) fn class_of(n: i64) -> Class
     ensures { λ r. ⌜ r ≡ classOf n ⌝ }
 {
     if n == 3 { Class::Third } else { Class::Fourth }
@@ -67,15 +67,15 @@ fn instrument_of(n: i64) -> Instrument
     }
 }
 
-pub(crate) fn opening_of(order: i64, instrument: i64, number: i64, height: i64) -> Opening
-    ensures { λ r. ⌜ r ≡ openingOf order instrument number height ⌝ }
+pub(crate) fn opening_of(class: Class, instrument: i64, number: i64, height: i64) -> Opening
+    ensures { λ r. ⌜ r ≡ openingOf class instrument number height ⌝ }
 {
     let start = Benchmark {
         number: number,
         height: height,
     };
     Opening {
-        class: class_of(order),
+        class: class,
         instrument: instrument_of(instrument),
         start: start,
     }

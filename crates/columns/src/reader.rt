@@ -145,6 +145,8 @@ fn field_count(tag: Tag) -> usize
         Tag::Drr => 0,
         Tag::Drs => 0,
         Tag::End => 2,
+        Tag::Spr => 4,
+        Tag::Fin => 1,
     }
 }
 
@@ -164,6 +166,8 @@ fn find_tag(w: &[u8]) -> Kind
     ensures { λ r. ⌜ r ≡ tagAmong tags (now (w .entry)) ⌝ }
 {
     let mut kind = Kind::Refused(1);
+    kind = tag_or(w, b"FIN", Tag::Fin, kind);
+    kind = tag_or(w, b"SPR", Tag::Spr, kind);
     kind = tag_or(w, b"END", Tag::End, kind);
     kind = tag_or(w, b"DRS", Tag::Drs, kind);
     kind = tag_or(w, b"DRR", Tag::Drr, kind);

@@ -8,7 +8,7 @@ use borrow.Author.Tests.{ltb-false}
 use lib.ListN.{length, take, drop, length-append, length-drop, length-map}
 use lib.IntN.{ℤ, pos, _*ℤ_}
 use Rattle.adjust.specs.declared.Point.{Point}
-use Rattle.adjust.specs.Line.{frameOf, Closing}
+use Rattle.adjust.specs.Line.{lineFrame, Closing}
 use Rattle.adjust.proofs.Lists.{points-length}
 use Rattle.columns.specs.Decimals.{same}
 use Rattle.columns.specs.Lines.{fields, lineFits, lineWith, tagLine, isWide, heading}
@@ -74,7 +74,7 @@ result-short r = go (isClosed (r .stage))
 closing-count : (r : Reading) → length (closingLines (figuresOf r)) ≡ suc (suc (length (r .sections)))
 closing-count r =
     let ss = map sectionOf (r .sections) in
-    let f = frameOf (r .opening .start .height) (r .end) ss in
+    let f = lineFrame (r .opening) (r .end) ss in
     ap suc (length-map (figuresOf r .points) pointLine) ∙ ap (λ (n : ℕ). suc (suc n)) (points-length f (pos 0) (pos 0) (f .prints *ℤ f .start) ss ∙ length-map (r .sections) sectionOf)
 
 result-few : (r : Reading) → length (resultLines r) ≤ least r + 1

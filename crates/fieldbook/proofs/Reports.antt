@@ -14,7 +14,7 @@ use Rattle.numbers.proofs.Tables.{first-lowest, number-cond, cond-of}
 use Rattle.numbers.proofs.Filled.{filled-length}
 use Rattle.adjust.specs.declared.Point.{Point}
 use Rattle.adjust.specs.declared.Summary.{Summary}
-use Rattle.adjust.specs.Line.{Closing}
+use Rattle.adjust.specs.Line.{lineFrame, Closing}
 use Rattle.adjust.specs.Frames.{noPoint}
 use Rattle.columns.specs.Decimals.{same}
 use Rattle.columns.specs.Lines.{heading, title}
@@ -56,7 +56,7 @@ module _ (r : Reading) (k : Kept (standing r)) where
   -- the points, read back from their array
   given-back : closingIn (Plain.figuresOf r .summary) (filled noPoint 65 (Plain.figuresOf r .points)) ≡ Plain.figuresOf r
   given-back =
-      λ i. record { summary = Plain.figuresOf r .summary; points = points-back (r .opening .start .height) (r .end) (r .opening .start .number) (standing r .sections) (k .few) i }
+      λ i. record { summary = Plain.figuresOf r .summary; points = points-back (lineFrame (r .opening) (r .end) (standing r .sections)) (r .opening .start .number) (standing r .sections) (k .few) i }
 
   sections-many : bookOf r .sections .count ≡ length (r .sections)
   unfolding holding

@@ -10,12 +10,12 @@ use lib.ListN.{length, length-append}
 use lib.IntN.{ℤ}
 use Rattle.numbers.proofs.Tests.{by-test, no-true, not-false}
 use Rattle.adjust.specs.declared.terms.Class.{Class}
-use Rattle.adjust.specs.declared.terms.Class.the-variants.{Third, Fourth}
+use Rattle.adjust.specs.declared.terms.Class.the-variants.{Third, Fourth, Spur}
 use Rattle.station.specs.Station.{stationOf}
 use Rattle.rules.specs.declared.Stage.{Stage}
 use Rattle.rules.specs.declared.Stage.the-variants.{Fresh, Open, Closed}
 use Rattle.rules.specs.Standing.{isOpen}
-use Rattle.rules.specs.Rules.{Call, open-line, station, end-run, drop-run, drop-section, close-line}
+use Rattle.rules.specs.Rules.{Call, open-line, station, end-run, drop-run, drop-section, close-line, open-spur, close-spur}
 use Rattle.ledger.specs.Plain.{Reading, Awaited, refusal, taken, runEnded, standing}
 use Rattle.ledger.specs.Entries.{Entry, asks, refused, entryRefusal, entryNext}
 use Rattle.rules.proofs.Tables.{fails}
@@ -45,6 +45,7 @@ two-at-least (suc (suc n)) e = omega arith
 ended : (r : Reading) (class : Class) (waiting : Option Awaited) (n : ℤ) → 2 ≤ length (r .present)
     → least (runEnded (recast r class waiting) n) ≤ least (recast r class waiting) + 1
 ended r Third none n h = omega arith
+ended r Spur none n h = omega arith
 ended r Fourth none n h = omega (arith, length-append (r .sections) (record { number = n; outward = r .present; back = none } ∷ []))
 ended r class (some w) n h = omega (arith, length-append (r .sections) (record { number = w .number; outward = w .outward; back = some (r .present) } ∷ []))
 
@@ -62,6 +63,10 @@ taken-least r drop-run e = omega arith
 taken-least r drop-section e = omega arith
 taken-least r (close-line number end) e =
     let opened = not-false (isOpen (r .stage)) (fails (standing r) (close-line number end) e 21) in
+    omega (arith, open-lines (r .stage) opened)
+taken-least r (open-spur order instrument number height) e = omega arith
+taken-least r (close-spur number) e =
+    let opened = not-false (isOpen (r .stage)) (fails (standing r) (close-spur number) e 21) in
     omega (arith, open-lines (r .stage) opened)
 
 -- ---- a line is refused, or adds one at most

@@ -6,6 +6,7 @@ use Prim.Native.Nat.{ℕ}
 use lib.ListN.{length, take}
 use lib.Dec.{eqb, ltb}
 use lib.IntN.{ℤ, pos}
+use lib.Signed.{ltZ}
 use Rattle.numbers.specs.Whole.{putAt}
 use Rattle.numbers.specs.Tables.{firstOf}
 use Rattle.adjust.specs.declared.Point.{Point}
@@ -26,9 +27,13 @@ use Rattle.textbook.specs.Text.{Refusal, tooLong, lineRefusals, refusalsFrom, r
 abbrev pub refLine : Refusal → List ℕ
 refLine x = tagLine (82 ∷ 69 ∷ 70 ∷ []) (pos (x .line) ∷ pos (x .number) ∷ []) false
 
+-- T as it is printed: one that has more than eight digits as 99,999,999 (document 02, W-202)
+abbrev pub shownT : ℤ → ℤ
+shownT t = cond (ltZ (pos 99999999) t) (pos 99999999) t
+
 -- W, L, n, T and the verdict
 abbrev pub closedNumbers : Summary → List ℤ
-closedNumbers s = s .closure ∷ s .distance ∷ pos (s .count) ∷ s .accidental ∷ pos (s .verdict) ∷ []
+closedNumbers s = s .closure ∷ s .distance ∷ pos (s .count) ∷ shownT (s .accidental) ∷ pos (s .verdict) ∷ []
 
 -- "CLO"
 abbrev pub closedLine : Summary → List ℕ

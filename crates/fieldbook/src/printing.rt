@@ -6,7 +6,7 @@ ghost use Prim.Native.Nat.{_+_, _*_, _≤_};
 ghost use lib.ListN.{length, take};
 ghost use Rattle.numbers.specs.Whole.{putAt};
 ghost use Rattle.columns.specs.Texts.{joined};
-ghost use Rattle.fieldbook.specs.Report.{closedLine, pointLine, openLine, closingLines};
+ghost use Rattle.fieldbook.specs.Report.{shownT, closedLine, pointLine, openLine, closingLines};
 ghost use Rattle.fieldbook.specs.Fits.{closedFits, pointFits};
 ghost use Rattle.book.specs.Calls.{closingIn};
 ghost use Rattle.fieldbook.specs.code.Printed.{refusalBytes, refusalLines, bookLines, stateLines, pointsFit, ClosingFits, Printable};
@@ -58,13 +58,20 @@ fn put_open(buf: &mut [u8], at: usize, sections: usize)
     put_line(buf, at, b"OPN", &numbers, false);
 }
 
+// T as it is printed: one that has more than eight digits as 99,999,999.
+fn shown_t(t: i64) -> i64
+    ensures { λ r. ⌜ r ≡ shownT t ⌝ }
+{
+    if 99999999 < t { 99999999 } else { t }
+}
+
 fn put_closed(buf: &mut [u8], at: usize, s: Summary)
     requires { ⌜ (at + 84 ≤ length (now buf)) × ((s .count ≤ 64) × (closedFits s ≡ true)) ⌝ }
     ensures { λ _. ⌜ now (buf .exit) ≡ putAt (now (buf .entry)) at (closedLine s) ⌝ }
 {
     let count = s.count as i64;
     let verdict = s.verdict as i64;
-    let numbers = [s.closure, s.distance, count, s.accidental, verdict];
+    let numbers = [s.closure, s.distance, count, shown_t(s.accidental), verdict];
     put_line(buf, at, b"CLO", &numbers, false);
 }
 

@@ -1,25 +1,30 @@
 -- Every list of calls: a line that it leaves closed was closed once and soundly; and its refused calls can be struck out.
 use mathlib.Core.Path.{_≡_, refl, sym, ap, subst, _∙_}
 use mathlib.Core.Bool.{Bool, true, false, not, cond, _||_}
-use mathlib.Core.List.{List, [], _∷_, _++_}
+use mathlib.Core.List.{List, [], _∷_, _++_, map}
 use mathlib.Core.Option.{Option, none, some}
 use lib.Dec.{eqb, eqb→eq}
-use lib.IntN.{ℤ, pos, +ℤ-idl}
+use lib.IntN.{ℤ, pos, _*ℤ_, +ℤ-idl}
 use lib.Signed.{_≤ℤ_}
 use Rattle.numbers.specs.Whole.{anyOf}
-use Rattle.numbers.proofs.Tests.{by-test, holds, no-true}
+use Rattle.numbers.proofs.Tests.{by-test, holds, no-true, not-false}
 use Rattle.numbers.proofs.Tables.{met}
 use Rattle.numbers.proofs.Ring.{one-mulℤ}
 use Rattle.adjust.specs.declared.terms.Class.{Class}
-use Rattle.adjust.specs.declared.terms.Class.the-variants.{Third, Fourth}
-use Rattle.adjust.specs.Line.{Closing, closing, lineLength}
-use Rattle.adjust.proofs.Lines.{line-sound}
+use Rattle.adjust.specs.declared.terms.Class.the-variants.{Third, Fourth, Spur}
+use Rattle.adjust.specs.declared.Opening.{Opening}
+use Rattle.adjust.specs.declared.Point.{Point}
+use Rattle.adjust.specs.declared.Summary.{Summary}
+use Rattle.adjust.specs.Terms.{termsOf}
+use Rattle.adjust.specs.Line.{Frame, frame, closure, points, Closing, closing, lineLength}
+use Rattle.adjust.proofs.Lines.{line-sound, line-near, raw-heights}
 use Rattle.rules.specs.declared.Stage.{Stage}
 use Rattle.rules.specs.declared.Stage.the-variants.{Closed}
 use Rattle.rules.specs.Standing.{Standing}
-use Rattle.rules.specs.Rules.{Call, open-line, station, end-run, drop-run, drop-section, close-line, isClosing, inputTests}
+use Rattle.rules.specs.Rules.{Call, open-line, station, end-run, drop-run, drop-section, close-line, open-spur, close-spur, isClosing, inputTests}
 use Rattle.ledger.specs.Plain.{Reading, Awaited, freshReading, after, next, taken, refusal, standing, runEnded, refusals, figuresOf, given, closings}
-use Rattle.ledger.specs.Claims.{SoundClosing, EveryList, takenOnly, StruckOut}
+use Rattle.ledger.specs.Claims.{others, Ends, SoundClosing, SpurHeights, ClosedBy, by-end, by-fin, EveryList, takenOnly, StruckOut}
+use Rattle.rules.proofs.Tables.{fails}
 use Rattle.ledger.proofs.Follows.{recast}
 use Rattle.ledger.proofs.Whole.{open-not-closed, fresh-not-closed, closed-long}
 
@@ -40,6 +45,8 @@ module _ (r : Reading) (e : r .stage ≡ Closed) where
       go drop-run = refl
       go drop-section = refl
       go (close-line n h) = met (inputTests (close-line n h)) 21 refl refl
+      go (open-spur o i n h) = met (inputTests (open-spur o i n h)) 21 refl refl
+      go (close-spur n) = met (inputTests (close-spur n)) 21 refl refl
 
   shut-stays : (cs : List Call) → after r cs ≡ r
   shut-stays [] = refl
@@ -59,6 +66,8 @@ closes-line r (end-run m) e = no-true e
 closes-line r drop-run e = no-true e
 closes-line r drop-section e = no-true e
 closes-line r (close-line m h) e = refl
+closes-line r (open-spur o i m h) e = no-true e
+closes-line r (close-spur m) e = refl
 
 -- ---- a line that is closed in the end was closed once
 
@@ -100,6 +109,7 @@ behind c cs r e f =
 ended-stage : (r : Reading) (class : Class) (waiting : Option Awaited) (n : ℤ) → runEnded (recast r class waiting) n .stage ≡ r .stage
 ended-stage r Third none n = refl
 ended-stage r Fourth none n = refl
+ended-stage r Spur none n = refl
 ended-stage r class (some w) n = refl
 
 -- another call leaves it as far as it was, or open
@@ -110,6 +120,8 @@ stays-open r (end-run m) e n = λ k. n (sym (ended-stage r (r .opening .class) (
 stays-open r drop-run e n = n
 stays-open r drop-section e n = n
 stays-open r (close-line m h) e n = no-true (sym e)
+stays-open r (open-spur o i m h) e n = open-not-closed
+stays-open r (close-spur m) e n = no-true (sym e)
 
 pub either : {A : Type 0} (t : Bool) {x y : A} → x ≡ y → cond t x y ≡ y
 either true e = e
@@ -161,16 +173,49 @@ none-given (c ∷ cs) r n = λ i. gives-none c cs r n i ++ none-given cs (next r
 
 -- ---- and soundly
 
-sound : (v : Standing) → pos 1 ≤ℤ lineLength (v .sections) → SoundClosing v (closing (v .line .opening) (v .line .end) (v .sections))
-sound v h =
-    let s = line-sound (v .line .opening .start .height) (v .line .end) (v .sections) h in
-    record {
-      figures = refl;
-      long = h;
-      used-up = +ℤ-idl _ ∙ s .used-up;
-      last = s .last ∙ one-mulℤ (v .line .end);
-      near = s .near;
-    }
+module _ (v : Standing) where
+  abbrev o : Opening
+  o = v .line .opening
+
+  -- the line's frame, and its closing, by whether it is tied to a known height
+  abbrev framed : Bool → Frame
+  framed t = frame (o .start .height) (record { closure = cond t (closure (o .start .height) (v .line .end) (v .sections)) (pos 0); distance = lineLength (v .sections) })
+
+  abbrev closedWith : Bool → Closing
+  closedWith t =
+      let s : Summary = closing o (v .line .end) (v .sections) .summary in
+      record {
+        summary = record { closure = pos 1 *ℤ framed t .closure; distance = s .distance; count = s .count; accidental = s .accidental; verdict = s .verdict };
+        points = points (framed t) (o .start .number) (v .sections);
+      }
+
+  module _ (h : pos 1 ≤ℤ lineLength (v .sections)) where
+    ends : (t : Bool) → Ends t (v .line .end) (closedWith t)
+    ends true =
+        let s = line-sound (v .sections) h (o .start .height) (v .line .end) in
+        record { used-up = +ℤ-idl _ ∙ s .used-up; last = s .last ∙ one-mulℤ (v .line .end) }
+    ends false = refl
+
+    sound : SoundClosing v (closing o (v .line .end) (v .sections))
+    sound = record { figures = refl; long = h; near = line-near (v .sections) h o (v .line .end); ends = ends (termsOf (o .class) .tied) }
+
+pub spur-heights : SpurHeights
+spur-heights v gave s e =
+    let heights : List Point → List ℤ = λ ps. map (λ (p : Point). p .height) (others ps) in
+    let long = subst (λ (c : Closing). pos 1 ≤ℤ c .summary .distance) (s .figures) (s .long) in
+    ap (λ (c : Closing). heights (c .points)) (s .figures) ∙ ap (λ (t : Bool). heights (closedWith v t .points)) e
+    ∙ raw-heights (v .line .opening .start .height) (lineLength (v .sections)) long (v .sections)
+
+-- by END or by FIN: 41 tells which of them closes a line
+closed-by : (r : Reading) (c : Call) → isClosing c ≡ true → refusal r c ≡ 0 → ClosedBy r c
+closed-by r (open-line o i m h) k e = no-true k
+closed-by r (station kb kf m) k e = no-true k
+closed-by r (end-run m) k e = no-true k
+closed-by r drop-run k e = no-true k
+closed-by r drop-section k e = no-true k
+closed-by r (close-line m h) k e = by-end m h (not-false (termsOf (r .opening .class) .tied) (fails (standing r) (close-line m h) e 41))
+closed-by r (open-spur o i m h) k e = no-true k
+closed-by r (close-spur m) k e = by-fin m (fails (standing r) (close-spur m) e 41)
 
 pub every-list : EveryList
 every-list calls e =
@@ -181,7 +226,7 @@ every-list calls e =
       call = f .call;
       later = f .later;
       split = f .split;
-      closes = f .closing;
+      closes = closed-by (after freshReading (f .before)) (f .call) (f .closing) (f .accepted);
       accepted = f .accepted;
       gave = figuresOf r;
       once = f .once;
@@ -230,12 +275,3 @@ all-taken (c ∷ cs) r = go (all-taken cs) (eqb (refusal r c) 0) refl
         let xs : List Call = takenOnly (taken r c) cs in
         subst (λ (t : Bool). not t || anyOf (λ n. not (eqb n 0)) (refusals (cond t (taken r c) r) xs) ≡ false) (sym e) (g (taken r c))
     go g false e = g r
-
--- every closing is one of document 01's: on a number and a known height, which the line then ends on
-pub closing-call : (c : Call) → isClosing c ≡ true → (number : ℤ) × ((end : ℤ) × (c ≡ close-line number end))
-closing-call (open-line o i m h) e = no-true e
-closing-call (station kb kf m) e = no-true e
-closing-call (end-run m) e = no-true e
-closing-call drop-run e = no-true e
-closing-call drop-section e = no-true e
-closing-call (close-line m h) e = (m, (h, refl))

@@ -6,13 +6,13 @@ use lib.ListN.{length-append}
 use lib.IntN.{ℤ, pos, _+ℤ_, +ℤ-assoc, +ℤ-comm}
 use Rattle.numbers.specs.Whole.{sum, lastOf}
 use Rattle.adjust.specs.declared.terms.Class.{Class}
-use Rattle.adjust.specs.declared.terms.Class.the-variants.{Third, Fourth}
+use Rattle.adjust.specs.declared.terms.Class.the-variants.{Third, Fourth, Spur}
 use Rattle.station.specs.Station.{Station, stationOf, figuresOf, sights, sightDifference, twiceHeight}
 use Rattle.adjust.specs.declared.Section.{Section}
 use Rattle.rules.specs.declared.Waiting.the-variants.{Nothing}
 use Rattle.rules.specs.Standing.{Standing, noRun, withStation}
 use Rattle.rules.specs.Rules as Rules
-use Rattle.rules.specs.Rules.{Call, open-line, station, end-run, drop-run, drop-section, close-line, withRuns, withSection}
+use Rattle.rules.specs.Rules.{Call, open-line, station, end-run, drop-run, drop-section, close-line, open-spur, close-spur, withRuns, withSection}
 use Rattle.ledger.specs.Plain as Plain
 use Rattle.ledger.specs.Plain.{Reading, Levelled, Awaited, runOf, sectionOf, standing, withLists}
 
@@ -61,6 +61,7 @@ finished r x = λ i. record { line = withRuns (standing r .line) Nothing noRun; 
 ended : (r : Reading) (class : Class) (waiting : Option Awaited) (n : ℤ)
     → standing (Plain.runEnded (recast r class waiting) n) ≡ Rules.runEnded (standing (recast r class waiting)) n
 ended r Third none n = refl
+ended r Spur none n = refl
 ended r Fourth none n = finished (recast r Fourth none) (record { number = n; outward = r .present; back = none })
 ended r class (some w) n = finished (recast r class (some w)) (record { number = w .number; outward = w .outward; back = some (r .present) })
 
@@ -74,3 +75,5 @@ follows r (end-run number) = ended r (r .opening .class) (r .waiting) number
 follows r drop-run = refl
 follows r drop-section = refl
 follows r (close-line number end) = refl
+follows r (open-spur order instrument number height) = refl
+follows r (close-spur number) = refl

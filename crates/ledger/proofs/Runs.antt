@@ -204,27 +204,17 @@ both-ways-fits t r number out back h k few e =
 
 -- ---- sections are narrow
 
--- what the fields of the report ask of a section: of its number, of Q (of 400 stations at most), and of D by the test 32
-abbrev pub narrow : Terms → Section → Bool
-narrow t x = within (x .number) 9999 && within (x .height) 4802400 && discrepancyWithin (t .apart) x
+-- what the fields of the report ask of a section: of its number, and of Q (of 400 stations at most)
+abbrev pub narrow : Section → Bool
+narrow x = within (x .number) 9999 && within (x .height) 4802400
 
-pub one-way-narrow : (t : Terms) (number : ℤ) (u : Run) → natAbs number ≤ 9999 → Sized u → narrow t (oneWay number u) ≡ true
-one-way-narrow t number u n h =
-    rw (
-      within-true number 9999 n,
-      within-true (pos 2 *ℤ u .height) 4802400 (omega (arith, h .height, h .count, abs-mul (pos 2) (u .height))),
-      le-within (t .apart .a) (pos 0) (t .apart .b) (pos 2 *ℤ u .sights)
-          (omega (ints, ap (λ k. t .apart .b * k) low, parts-times (t .apart .a) (pos 0), parts-times (t .apart .b) (pos 2 *ℤ u .sights))),
-    )
-  where
-    low : negPart (pos 2 *ℤ u .sights) ≡ 0
-    low = omega (ints, h .low, parts-times 2 (u .sights), parts-abs (u .sights))
+pub one-way-narrow : (number : ℤ) (u : Run) → natAbs number ≤ 9999 → Sized u → narrow (oneWay number u) ≡ true
+one-way-narrow number u n h =
+    rw (within-true number 9999 n, within-true (pos 2 *ℤ u .height) 4802400 (omega (arith, h .height, h .count, abs-mul (pos 2) (u .height))))
 
-pub both-ways-narrow : (t : Terms) (number : ℤ) (out back : Run) → natAbs number ≤ 9999 → Sized out → Sized back
-    → discrepancyWithin (t .apart) (bothWays number out back) ≡ true → narrow t (bothWays number out back) ≡ true
-both-ways-narrow t number out back n h k e =
+pub both-ways-narrow : (number : ℤ) (out back : Run) → natAbs number ≤ 9999 → Sized out → Sized back → narrow (bothWays number out back) ≡ true
+both-ways-narrow number out back n h k =
     rw (
       within-true number 9999 n,
       within-true (out .height -ℤ back .height) 4802400 (omega (arith, h .height, h .count, k .height, k .count, abs-sub (out .height) (back .height))),
-      e,
     )

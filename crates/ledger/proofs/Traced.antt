@@ -17,7 +17,7 @@ use Rattle.adjust.specs.declared.Point.{Point}
 use Rattle.adjust.specs.declared.Summary.{Summary}
 use Rattle.adjust.specs.declared.Opening.{Opening}
 use Rattle.adjust.specs.Sections.{sectionsOf}
-use Rattle.adjust.specs.Line.{points, frameOf, Closing, closing}
+use Rattle.adjust.specs.Line.{Frame, points, lineFrame, Closing, closing}
 use Rattle.adjust.specs.Frames.{noPoint}
 use Rattle.adjust.specs.Call.{numberOf}
 use Rattle.adjust.proofs.Lists.{points-length}
@@ -30,7 +30,7 @@ use Rattle.book.specs.declared.CloseAnswer.the-variants.{Closed, NotClosed}
 use Rattle.book.specs.declared.ClosedFigures.{ClosedFigures}
 use Rattle.book.specs.declared.CloseOutcome.{CloseOutcome}
 use Rattle.rules.specs.Standing.{Standing, standingOf, bookWith}
-use Rattle.rules.specs.Rules.{Call, open-line, station, end-run, drop-run, drop-section, close-line, isClosing, bookRefusal}
+use Rattle.rules.specs.Rules.{Call, open-line, station, end-run, drop-run, drop-section, close-line, open-spur, close-spur, isClosing, bookRefusal}
 use Rattle.rules.specs.Records.{callOf}
 use Rattle.rules.specs.Rules as Rules
 use Rattle.rules.proofs.Tables.{tests, tables}
@@ -69,18 +69,17 @@ module _ (r : Reading) (k : Kept (standing r)) (c : Call) where
 
 -- ---- what a closing gives
 
-module _ (start end : ℤ) (number : ℤ) (ss : List Section) where
+module _ (f : Frame) (number : ℤ) (ss : List Section) where
   -- the points, read back from an array with room for 64 sections
-  pub points-back : length ss ≤ 64 → take (length ss + 1) (filled noPoint 65 (points (frameOf start end ss) number ss)) ≡ points (frameOf start end ss) number ss
+  pub points-back : length ss ≤ 64 → take (length ss + 1) (filled noPoint 65 (points f number ss)) ≡ points f number ss
   points-back h =
-      let f = frameOf start end ss in
       let ps = points f number ss in
       let n : length ps ≡ length ss + 1 = omega (arith, points-length f (pos 0) (pos 0) (f .prints *ℤ f .start) ss) in
       ap (λ (m : ℕ). take m (filled noPoint 65 ps)) (sym n) ∙ filled-take noPoint 65 ps (omega (arith, n))
 
 given-back : (o : Opening) (end : ℤ) (ss : List Section) → length ss ≤ 64
     → gaveOf (Closed (closing o end ss .summary)) (filled noPoint 65 (closing o end ss .points)) ≡ closing o end ss ∷ []
-given-back o end ss h = λ i. record { summary = closing o end ss .summary; points = points-back (o .start .height) end (o .start .number) ss h i } ∷ []
+given-back o end ss h = λ i. record { summary = closing o end ss .summary; points = points-back (lineFrame o end ss) (o .start .number) ss h i } ∷ []
 
 -- ---- a list of calls
 
@@ -97,6 +96,8 @@ meant b (end-run number) = record { answers = λ o h. (refl, h); closes = λ o h
 meant b drop-run = record { answers = λ o h. (refl, h); closes = λ o h. absurd h; made = inl (λ o h. h) }
 meant b drop-section = record { answers = λ o h. (refl, h); closes = λ o h. absurd h; made = inl (λ o h. h) }
 meant b (close-line number end) = record { answers = λ o h. absurd h; closes = λ o h. (refl, h); made = inr (λ o h. h) }
+meant b (open-spur order instrument number height) = record { answers = λ o h. (refl, h); closes = λ o h. absurd h; made = inl (λ o h. h) }
+meant b (close-spur number) = record { answers = λ o h. absurd h; closes = λ o h. (refl, h); made = inr (λ o h. h) }
 
 -- a call that is no closing gives nothing beside
 none-beside : (r : Reading) (c : Call) → isClosing c ≡ false → given r c ≡ []

@@ -15,7 +15,9 @@ use Rattle.numbers.proofs.Tests.{by-test, holds, no-true, and-l, and-r, or-l, o
 use Rattle.numbers.proofs.Tables.{first-skips}
 use Rattle.numbers.proofs.All.{All, all-cons, all-append}
 use Rattle.numbers.proofs.Parts.{ints, parts-abs, test-le}
+use Rattle.adjust.specs.declared.Opening.{Opening}
 use Rattle.adjust.specs.declared.Section.{Section}
+use Rattle.adjust.specs.declared.terms.Class.the-variants.{Spur}
 use Rattle.adjust.specs.declared.terms.Terms.{Terms}
 use Rattle.adjust.specs.Terms.{termsOf}
 use Rattle.adjust.specs.Sections.{sectionFits, misfit, heightInRange}
@@ -30,7 +32,7 @@ use Rattle.rules.specs.declared.Line.{Line}
 use Rattle.rules.specs.declared.Waiting.{Waiting}
 use Rattle.rules.specs.declared.Waiting.the-variants.{Nothing, Outward}
 use Rattle.rules.specs.Standing.{Standing, isFresh, isOpen, isClosed, isShut, isEmpty, isReturn, outwardOrReturn, noRun, oneWay, bothWays, waitingBroken, misplaced, lineBroken}
-use Rattle.rules.specs.Rules.{Call, open-line, station, end-run, drop-run, drop-section, close-line, isClosing, broken, inputTests, stateTests, refusal, bookRefusal, numberInRange, discrepancyWithin, withRuns, withSection, runEnded, taken}
+use Rattle.rules.specs.Rules.{Call, open-line, station, end-run, drop-run, drop-section, close-line, open-spur, close-spur, isClosing, broken, inputTests, stateTests, refusal, bookRefusal, numberInRange, discrepancyWithin, classOf, openingOf, begun, closedAt, withRuns, withSection, runEnded, taken}
 use Rattle.rules.proofs.Tables.{fails}
 use Rattle.ledger.specs.Plain as Plain
 use Rattle.ledger.specs.Plain.{Reading, freshReading, after, next, standing}
@@ -63,7 +65,7 @@ pub record Kept (v : Standing) : Type 0 where
   pub placed : misplaced (v .line) (length (v .sections)) ≡ false
   -- what the report's fields ask
   pub number : natAbs (v .line .opening .start .number) ≤ 9999
-  pub narrow-sections : All (narrow (termsOf (v .line .opening .class))) (v .sections)
+  pub narrow-sections : All narrow (v .sections)
 
 -- so the test of 20 does not hold
 pub kept-whole : (v : Standing) → Kept v → (c : Call) → broken v c ≡ false
@@ -124,7 +126,7 @@ runs-kept v w u i o k h e =
 -- ---- the end of a run
 
 -- a section more, one that fits and for which there is room
-section-kept : (v : Standing) (x : Section) → Kept v → isOpen (v .line .stage) ≡ true → length (v .sections) < 64 → sectionFits x ≡ true → narrow (termsOf (v .line .opening .class)) x ≡ true
+section-kept : (v : Standing) (x : Section) → Kept v → isOpen (v .line .stage) ≡ true → length (v .sections) < 64 → sectionFits x ≡ true → narrow x ≡ true
     → Kept (withSection v x)
 section-kept v x i o room e n =
     record {
@@ -137,7 +139,7 @@ section-kept v x i o room e n =
       closed = λ c. rw (length-append (v .sections) (x ∷ [])) (omega arith);
       placed = open-placed (withSection v x .line) (length (withSection v x .sections)) o refl;
       number = i .number;
-      narrow-sections = let p = narrow (termsOf (v .line .opening .class)) in all-append p (v .sections) (x ∷ []) (i .narrow-sections) (all-cons p x [] n refl);
+      narrow-sections = all-append narrow (v .sections) (x ∷ []) (i .narrow-sections) (all-cons narrow x [] n refl);
     }
 
 number-size : (n : ℤ) → numberInRange n ≡ true → natAbs n ≤ 9999
@@ -175,11 +177,11 @@ run-kept v number i e =
         (λ outward run. withSection v (bothWays outward run u)))
     go Nothing true both some k room d = runs-kept v (Outward number u) noRun i running (i .present, leb-false 64 n room, small) no-run-sized (λ j. not (both j))
     go Nothing false both some k room d =
-        section-kept v (oneWay number u) i running (leb-false 64 n room) (one-way-fits number u (i .present) some) (one-way-narrow terms number u small (i .present))
+        section-kept v (oneWay number u) i running (leb-false 64 n room) (one-way-fits number u (i .present) some) (one-way-narrow number u small (i .present))
     go (Outward outward run) t both some k room d =
         let near = not-false (discrepancyWithin (terms .apart) (bothWays outward run u)) d in
         section-kept v (bothWays outward run u) i running (k .1) (both-ways-fits terms (row (v .line .opening .class)) outward run u (k .0) (i .present) some near)
-        (both-ways-narrow terms outward run u (k .2) (k .0) (i .present) near)
+        (both-ways-narrow outward run u (k .2) (k .0) (i .present))
 
 -- ---- a call
 
@@ -192,45 +194,54 @@ running-station v kb kf readings e =
     not-false (isOpen (v .line .stage))
     (or-l (not (isOpen (v .line .stage))) (isShut v) (fails v (station kb kf readings) e 21))
 
-taken-kept : (v : Standing) (c : Call) → Kept v → refusal v c ≡ 0 → Kept (taken v c)
--- by the tests 4 and 5
-taken-kept v (open-line order instrument number height) i e =
-    let test = fails v (open-line order instrument number height) e in
+-- a line that is opened, by the tests 4 and 5
+opened-kept : (o : Opening) → not (numberInRange (o .start .number)) ≡ false → not (heightInRange (o .start .height)) ≡ false → Kept (record { line = begun o; sections = [] })
+opened-kept o four five =
     record {
       few = omega arith;
       fit = refl;
       present = no-run-sized;
       waiting = tt;
-      start = not-false (heightInRange height) (test 5);
+      start = not-false (heightInRange (o .start .height)) five;
       end = refl;
       closed = λ c. absurd (open-not-closed c);
       placed = refl;
-      number = number-size number (not-false (numberInRange number) (test 4));
+      number = number-size (o .start .number) (not-false (numberInRange (o .start .number)) four);
       narrow-sections = refl;
     }
-taken-kept v (station kb kf readings) i e =
-    runs-kept v (v .line .waiting) _ i (running-station v kb kf readings e) (i .waiting) (station-sized v kb kf readings e (i .present)) (no-stray v i)
-taken-kept v (end-run number) i e = run-kept v number i e
-taken-kept v drop-run i e =
-    runs-kept v (v .line .waiting) noRun i (not-false (isOpen (v .line .stage)) (fails v drop-run e 21)) (i .waiting) no-run-sized (no-stray v i)
-taken-kept v drop-section i e = runs-kept v Nothing noRun i (not-false (isOpen (v .line .stage)) (fails v drop-section e 21)) tt no-run-sized refl
--- by the tests 5 and 33
-taken-kept v (close-line number end) i e =
-    let test = fails v (close-line number end) e in
-    let some : 1 ≤ length (v .sections) =
-    not-empty (v .sections) (or-r (not (eqb (v .line .present .count) 0) || isReturn (v .line .waiting)) (isEmpty (v .sections)) (test 33)) in
+
+-- one that is closed on a height in range, by the test 33
+closed-kept : (v : Standing) (end : ℤ) → Kept v → heightInRange end ≡ true → not (eqb (v .line .present .count) 0) || isReturn (v .line .waiting) || isEmpty (v .sections) ≡ false
+    → Kept (record { line = closedAt (v .line) end; sections = v .sections })
+closed-kept v end i known ready =
+    let some : 1 ≤ length (v .sections) = not-empty (v .sections) (or-r (not (eqb (v .line .present .count) 0) || isReturn (v .line .waiting)) (isEmpty (v .sections)) ready) in
     record {
       few = i .few;
       fit = i .fit;
       present = i .present;
       waiting = i .waiting;
       start = i .start;
-      end = not-false (heightInRange end) (test 5);
+      end = known;
       closed = λ c. some;
       placed = λ j. no-stray v i j || ne-eqb (length (v .sections)) 0 (λ z. omega arith) j;
       number = i .number;
       narrow-sections = i .narrow-sections;
     }
+
+taken-kept : (v : Standing) (c : Call) → Kept v → refusal v c ≡ 0 → Kept (taken v c)
+taken-kept v (open-line order instrument number height) i e =
+    let test = fails v (open-line order instrument number height) e in opened-kept (openingOf (classOf order) instrument number height) (test 4) (test 5)
+taken-kept v (station kb kf readings) i e =
+    runs-kept v (v .line .waiting) _ i (running-station v kb kf readings e) (i .waiting) (station-sized v kb kf readings e (i .present)) (no-stray v i)
+taken-kept v (end-run number) i e = run-kept v number i e
+taken-kept v drop-run i e =
+    runs-kept v (v .line .waiting) noRun i (not-false (isOpen (v .line .stage)) (fails v drop-run e 21)) (i .waiting) no-run-sized (no-stray v i)
+taken-kept v drop-section i e = runs-kept v Nothing noRun i (not-false (isOpen (v .line .stage)) (fails v drop-section e 21)) tt no-run-sized refl
+taken-kept v (close-line number end) i e =
+    let test = fails v (close-line number end) e in closed-kept v end i (not-false (heightInRange end) (test 5)) (test 33)
+taken-kept v (open-spur order instrument number height) i e =
+    let test = fails v (open-spur order instrument number height) e in opened-kept (openingOf Spur instrument number height) (test 4) (test 5)
+taken-kept v (close-spur number) i e = closed-kept v (pos 0) i refl (fails v (close-spur number) e 33)
 
 -- ---- no call shortens the list of sections: one that opens a line finds none
 
@@ -261,6 +272,9 @@ no-shorter v (end-run number) i e = run-longer v number (v .line .waiting) (term
 no-shorter v drop-run i e = le-refl (length (v .sections))
 no-shorter v drop-section i e = le-refl (length (v .sections))
 no-shorter v (close-line number end) i e = le-refl (length (v .sections))
+no-shorter v (open-spur order instrument number height) i e =
+    omega (arith, fresh-none v i (not-false (isFresh (v .line .stage)) (fails v (open-spur order instrument number height) e 21)))
+no-shorter v (close-spur number) i e = le-refl (length (v .sections))
 
 -- ---- a list of calls
 

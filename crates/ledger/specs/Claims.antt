@@ -1,19 +1,20 @@
--- What is claimed of every list of calls from a fresh book: of the closing taken in it (demand 3 of document 01), of the order of refusals, and of refused
+-- What is claimed of every list of calls from a fresh book: of the closing taken in it (demand 3 of document 01; for spurs document 02, W-202), of the order of refusals, and of refused
 -- and dropped calls.
 use mathlib.Core.Path.{_≡_}
-use mathlib.Core.Bool.{true, cond}
-use mathlib.Core.List.{List, [], _∷_, _++_}
+use mathlib.Core.Bool.{Bool, true, false, cond}
+use mathlib.Core.List.{List, [], _∷_, _++_, map}
 use mathlib.Core.Option.{none}
 use lib.Dec.{eqb}
-use lib.IntN.{pos, negℤ}
+use lib.IntN.{ℤ, pos, negℤ, _*ℤ_}
 use lib.Signed.{_≤ℤ_}
 use Rattle.numbers.specs.Tables.{Lowest}
 use Rattle.adjust.specs.declared.Point.{Point}
-use Rattle.adjust.specs.Line.{frameOf, Closing, closing}
-use Rattle.adjust.specs.Claims.{Near, corrections, lastHeight}
+use Rattle.adjust.specs.Terms.{termsOf}
+use Rattle.adjust.specs.Line.{lineFrame, Closing, closing}
+use Rattle.adjust.specs.Claims.{Near, corrections, lastHeight, rawHeights}
 use Rattle.rules.specs.declared.Stage.the-variants.{Open, Closed}
 use Rattle.rules.specs.Standing.{Standing}
-use Rattle.rules.specs.Rules.{Call, drop-run, drop-section, isClosing, broken, inputTests, stateTests, bookRefusal, before30}
+use Rattle.rules.specs.Rules.{Call, drop-run, drop-section, close-line, close-spur, broken, inputTests, stateTests, bookRefusal, rank}
 use Rattle.ledger.specs.Plain.{Reading, freshReading, after, next, taken, refusal, standing, withLists, closings}
 
 -- ---- a closing
@@ -23,17 +24,37 @@ abbrev pub others : List Point → List Point
 others [] = []
 others (p ∷ ps) = ps
 
+-- the end of a line that is tied to a known height
+pub record KnownEnd (end : ℤ) (gave : Closing) : Type 0 where
+  -- the corrections of all points use up the closure
+  pub used-up : corrections (gave .points) ≡ negℤ (gave .summary .closure)
+  -- the last height is the known one
+  pub last : lastHeight (pos 0) (gave .points) ≡ end
+
+-- by whether it is tied: of a spur neither of these is promised, and its closure is 0
+abbrev pub Ends : Bool → ℤ → Closing → Type 0
+Ends true end gave = KnownEnd end gave
+Ends false end gave = gave .summary .closure ≡ pos 0
+
 -- `gave` is what closing a line gave that then stood as v
 pub record SoundClosing (v : Standing) (gave : Closing) : Type 0 where
   -- W, L, n, T, the verdict and each point are what the formulas make of v and the two known heights
   pub figures : gave ≡ closing (v .line .opening) (v .line .end) (v .sections)
   -- the bounds of `near` are multiples of L, so they bind
   pub long : pos 1 ≤ℤ gave .summary .distance
-  -- the corrections of all points use up the closure
-  pub used-up : corrections (gave .points) ≡ negℤ (gave .summary .closure)
-  -- the last height is the known one
-  pub last : lastHeight (pos 0) (gave .points) ≡ v .line .end
-  pub near : Near (frameOf (v .line .opening .start .height) (v .line .end) (v .sections)) (pos 0) (pos 0) (v .sections) (others (gave .points))
+  pub near : Near (lineFrame (v .line .opening) (v .line .end) (v .sections)) (pos 0) (pos 0) (v .sections) (others (gave .points))
+  pub ends : Ends (termsOf (v .line .opening .class) .tied) (v .line .end) gave
+
+-- a spur's heights are start plus running Q, rounded to even
+abbrev pub SpurHeights : Type 0
+SpurHeights =
+    (v : Standing) (gave : Closing) → SoundClosing v gave → termsOf (v .line .opening .class) .tied ≡ false
+    → map (λ (p : Point). p .height) (others (gave .points)) ≡ rawHeights (pos 4 *ℤ v .line .opening .start .height) (v .sections)
+
+-- the call that closes a line: END where it is tied to a known height, and FIN where it is not, as on a spur
+pub data ClosedBy (r : Reading) : Call → Type 0 where
+  by-end : (number end : ℤ) → termsOf (r .opening .class) .tied ≡ true → ClosedBy r (close-line number end)
+  by-fin : (number : ℤ) → termsOf (r .opening .class) .tied ≡ false → ClosedBy r (close-spur number)
 
 -- one closing was taken in the list, of what the calls before it left; it was sound, and no later call changed anything.
 -- `all` is what the list's closings gave
@@ -42,7 +63,7 @@ pub record ClosedOnce (calls : List Call) (all : List Closing) : Type 0 where
   pub call : Call
   pub later : List Call
   pub split : calls ≡ before ++ (call ∷ later)
-  pub closes : isClosing call ≡ true
+  pub closes : ClosedBy (after freshReading before) call
   pub accepted : refusal (after freshReading before) call ≡ 0
   pub gave : Closing
   pub once : all ≡ gave ∷ []
@@ -57,7 +78,7 @@ EveryList = (calls : List Call) → after freshReading calls .stage ≡ Closed �
 
 -- a book answers the lowest number that applies
 abbrev pub LowestGiven : Type 0
-LowestGiven = (v : Standing) (c : Call) → Lowest before30 (inputTests c ++ ((20, broken v c) ∷ stateTests v c)) (bookRefusal v c)
+LowestGiven = (v : Standing) (c : Call) → Lowest rank (inputTests c ++ ((20, broken v c) ∷ stateTests v c)) (bookRefusal v c)
 
 -- ---- refused calls
 

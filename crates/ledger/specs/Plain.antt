@@ -8,7 +8,7 @@ use lib.ListN.{length}
 use lib.Dec.{eqb}
 use lib.IntN.{ℤ, pos}
 use Rattle.numbers.specs.Whole.{sum, lastOf}
-use Rattle.adjust.specs.declared.terms.Class.the-variants.{Fourth}
+use Rattle.adjust.specs.declared.terms.Class.the-variants.{Fourth, Spur}
 use Rattle.station.specs.declared.Instrument.the-variants.{Ds3}
 use Rattle.station.specs.Station.{Station, stationOf, sights, sightDifference, twiceHeight}
 use Rattle.adjust.specs.declared.Opening.{Opening}
@@ -22,7 +22,7 @@ use Rattle.rules.specs.declared.Waiting.{Waiting}
 use Rattle.rules.specs.declared.Waiting.the-variants.{Nothing, Outward}
 use Rattle.rules.specs.Standing.{Standing, oneWay, bothWays}
 use Rattle.rules.specs.Rules as Rules
-use Rattle.rules.specs.Rules.{Call, open-line, station, end-run, drop-run, drop-section, close-line, openingOf, isClosing}
+use Rattle.rules.specs.Rules.{Call, open-line, station, end-run, drop-run, drop-section, close-line, open-spur, close-spur, classOf, openingOf, isClosing}
 
 -- a finished section: its number, its outward list and, where it was levelled both ways, its return list
 pub record Levelled : Type 0 where
@@ -38,7 +38,7 @@ pub record Awaited : Type 0 where
 pub record Reading : Type 0 where
   pub stage : Stage
   pub opening : Opening
-  -- the end height; a placeholder until the line is closed
+  -- the end height; a placeholder until the line is closed, and on a spur
   pub end : ℤ
   pub sections : List Levelled
   pub waiting : Option Awaited
@@ -108,21 +108,20 @@ runEnded r number = go (r .waiting)
         (finished (record { number = number; outward = r .present; back = none }))
     go (some w) = finished (record { number = w .number; outward = w .outward; back = some (r .present) })
 
-abbrev pub taken : Reading → Call → Reading
-taken r (open-line order instrument number height) =
+-- a line that is opened has nothing in any list
+abbrev pub opened : Opening → Reading
+opened o =
     record {
       stage = Open;
-      opening = openingOf order instrument number height;
+      opening = o;
       end = pos 0;
       sections = [];
       waiting = none;
       present = [];
     }
-taken r (station kb kf readings) = withLists r (r .sections) (r .waiting) (r .present ++ (stationOf kb kf readings ∷ []))
-taken r (end-run number) = runEnded r number
-taken r drop-run = withLists r (r .sections) (r .waiting) []
-taken r drop-section = withLists r (r .sections) none []
-taken r (close-line number end) =
+
+abbrev pub closedOn : Reading → ℤ → Reading
+closedOn r end =
     record {
       stage = Closed;
       opening = r .opening;
@@ -131,6 +130,17 @@ taken r (close-line number end) =
       waiting = r .waiting;
       present = r .present;
     }
+
+abbrev pub taken : Reading → Call → Reading
+taken r (open-line order instrument number height) = opened (openingOf (classOf order) instrument number height)
+taken r (station kb kf readings) = withLists r (r .sections) (r .waiting) (r .present ++ (stationOf kb kf readings ∷ []))
+taken r (end-run number) = runEnded r number
+taken r drop-run = withLists r (r .sections) (r .waiting) []
+taken r drop-section = withLists r (r .sections) none []
+taken r (close-line number end) = closedOn r end
+taken r (open-spur order instrument number height) = opened (openingOf Spur instrument number height)
+-- the end height of a spur stays a placeholder
+taken r (close-spur number) = closedOn r (pos 0)
 
 -- ---- a list of calls
 

@@ -1,4 +1,4 @@
--- The starred lines of document 01, 'Checked by hand', as one fact that the rules compute.
+-- The starred lines of document 01, 'Checked by hand', as one fact that the rules compute; and a spur (document 02, W-202) as another.
 use mathlib.Core.Path.{_≡_, refl}
 use mathlib.Core.List.{List, [], _∷_, _++_, map}
 use Prim.Native.Nat.{ℕ}
@@ -10,7 +10,7 @@ use Rattle.adjust.specs.declared.Section.{Section}
 use Rattle.adjust.specs.declared.Point.{Point}
 use Rattle.adjust.specs.Line.{Frame, frameOf, exactTop, closure, Closing, accidental}
 use Rattle.rules.specs.Standing.{Standing, outwardOrReturn, bothWays}
-use Rattle.rules.specs.Rules.{Call, open-line, station, end-run, close-line}
+use Rattle.rules.specs.Rules.{Call, open-line, station, end-run, close-line, open-spur, close-spur}
 use Rattle.ledger.specs.Plain.{freshReading, after, refusals, standing, runOf, closings}
 
 -- ---- the stations of case A
@@ -25,12 +25,12 @@ readings1 = staff 1571 1197 1384 6171 ∷ staff 739 363 551 5239 ∷ []
 abbrev readings2 : List (List ℤ)
 readings2 = staff 1965 1700 1832 6519 ∷ staff 2141 1874 2007 6793 ∷ []
 
--- back again over the same section, the last red reading open
+-- back again over the same section, the last black and red readings open
 abbrev backReadings1 : List (List ℤ)
 backReadings1 = staff 2141 1874 2007 6694 ∷ staff 1965 1700 1832 6619 ∷ []
 
-abbrev backReadings2 : ℕ → List (List ℤ)
-backReadings2 red = staff 739 363 551 5338 ∷ staff 1571 1197 1380 red ∷ []
+abbrev backReadings2 : ℕ → ℕ → List (List ℤ)
+backReadings2 black red = staff 739 363 551 5338 ∷ staff 1571 1197 black red ∷ []
 
 abbrev a1 : Call
 a1 = station (pos 4787) (pos 4687) readings1
@@ -67,7 +67,7 @@ two start end = open4 start ∷ a3 ∷ a4 ∷ end-run (pos 2) ∷ a3 ∷ a4 ∷ 
 abbrev goneBack : ℕ → List Call
 goneBack red =
     open-line (pos 3) (pos 3) (pos 1) (pos 10000) ∷ a1 ∷ a2 ∷ end-run (pos 2)
-    ∷ station (pos 4687) (pos 4787) backReadings1 ∷ station (pos 4787) (pos 4687) (backReadings2 red) ∷ []
+    ∷ station (pos 4687) (pos 4787) backReadings1 ∷ station (pos 4787) (pos 4687) (backReadings2 1380 red) ∷ []
 
 abbrev outAndBack : ℕ → List Call
 outAndBack red = goneBack red ++ (end-run (pos 1) ∷ [])
@@ -151,4 +151,54 @@ starred =
       tie-1 = refl;
       tie-2-exact = refl;
       tie-2 = refl;
+    }
+
+-- ---- a spur
+
+-- fourth order, DS3, from benchmark 1: A's section 1 out and back
+abbrev gone : ℕ → ℕ → List Call
+gone black red =
+    open-spur (pos 4) (pos 3) (pos 1) (pos 10000) ∷ a1 ∷ a2 ∷ end-run (pos 2)
+    ∷ station (pos 4687) (pos 4787) backReadings1 ∷ station (pos 4787) (pos 4687) (backReadings2 black red) ∷ end-run (pos 1) ∷ []
+
+-- number and height of each point, and the corrections
+abbrev marks : List Closing → List (List (ℤ × ℤ))
+marks cs = map (λ (c : Closing). map (λ (p : Point). (p .number, p .height)) (c .points)) cs
+
+abbrev corrected : List Closing → List (List ℤ)
+corrected cs = map (λ (c : Closing). map (λ (p : Point). p .correction) (c .points)) cs
+
+-- R 2564: a return with D 14 is taken, with D 15 refused. FIN closes it, END does not; a height of 10654.5 is printed as the even 10654
+pub record SpurWorked : Type 0 where
+  pub d14 : standing (after freshReading (gone 1377 6064)) .sections ≡ section 2 2618 2564 14 ∷ []
+  pub d14-taken : refusals freshReading (gone 1377 6064) ≡ 0 ∷ 0 ∷ 0 ∷ 0 ∷ 0 ∷ 0 ∷ 0 ∷ []
+  pub d15-refused : refusals freshReading (gone 1377 6063) ≡ 0 ∷ 0 ∷ 0 ∷ 0 ∷ 0 ∷ 0 ∷ 32 ∷ []
+  pub by-end : refusals (after freshReading (gone 1377 6064)) (close-line (pos 2) (pos 10655) ∷ close-line (pos 0) (pos 0) ∷ close-spur (pos 1) ∷ close-spur (pos 2) ∷ close-spur (pos 2) ∷ [])
+      ≡ 41 ∷ 4 ∷ 34 ∷ 0 ∷ 21 ∷ []
+  pub no-closure : closures (closings freshReading (gone 1377 6064 ++ (close-spur (pos 2) ∷ []))) ≡ pos 0 ∷ []
+  pub heights-even : marks (closings freshReading (gone 1377 6064 ++ (close-spur (pos 2) ∷ []))) ≡ ((pos 1, pos 10000) ∷ (pos 2, pos 10654) ∷ []) ∷ []
+  pub corrections-left : corrected (closings freshReading (gone 1377 6064 ++ (close-spur (pos 2) ∷ []))) ≡ (pos 0 ∷ negℤ (pos 2) ∷ []) ∷ []
+  pub t : map (λ (c : Closing). c .summary .accidental) (closings freshReading (gone 1377 6064 ++ (close-spur (pos 2) ∷ []))) ≡ pos 38222 ∷ []
+  -- its second section may not end on the start number, as a line's may; FIN does not close a line, nor a fresh book; a spur is of fourth order
+  pub no-loop : refusals (after freshReading (gone 1377 6064)) (a1 ∷ a2 ∷ end-run (pos 1) ∷ end-run (pos 3) ∷ []) ≡ 0 ∷ 0 ∷ 30 ∷ 0 ∷ []
+  pub loop : refusals (after freshReading (outAndBack 6067)) (a1 ∷ a2 ∷ end-run (pos 1) ∷ []) ≡ 0 ∷ 0 ∷ 0 ∷ []
+  pub fin-on-line : refusals freshReading (close-spur (pos 2) ∷ open4 10000 ∷ a1 ∷ a2 ∷ end-run (pos 2) ∷ close-spur (pos 2) ∷ []) ≡ 21 ∷ 0 ∷ 0 ∷ 0 ∷ 0 ∷ 41 ∷ []
+  pub order-3 : refusals freshReading (open-spur (pos 3) (pos 3) (pos 1) (pos 10000) ∷ []) ≡ 3 ∷ []
+
+pub spur-worked : SpurWorked
+unfolding roundEven isWithin
+spur-worked =
+    record {
+      d14 = refl;
+      d14-taken = refl;
+      d15-refused = refl;
+      by-end = refl;
+      no-closure = refl;
+      heights-even = refl;
+      corrections-left = refl;
+      t = refl;
+      no-loop = refl;
+      loop = refl;
+      fin-on-line = refl;
+      order-3 = refl;
     }

@@ -1,4 +1,4 @@
-// The records of a levelling book: one for each call, named by its tag in the text book (document 01, 'The text book and the report').
+// The records of a levelling book: one for each call, named by its tag in the text book (document 01, 'The text book and the report'; document 02, W-202).
 
 pub enum Tag {
     // open the line
@@ -13,6 +13,10 @@ pub enum Tag {
     Drs,
     // close the line
     End,
+    // open a spur
+    Spr,
+    // close the spur
+    Fin,
 }
 
 // What an entry of a book is: a record with this tag, or none and refused with this number of document 01.

@@ -20,8 +20,9 @@ use Rattle.rules.specs.declared.Line.{Line}
 use Rattle.rules.specs.declared.Book.{Book}
 use Rattle.rules.specs.declared.state.Seen.{Seen}
 use Rattle.rules.specs.Standing.{Standing, standingOf, isFresh, isOpen, isEmpty, isReturn, isShut, began, onLine, outwardOrReturn, bothWays, lineBroken}
-use Rattle.rules.specs.Rules.{open-line, station, end-run, drop-run, discrepancyWithin, inputTests, stationTests, bookRefusal}
+use Rattle.rules.specs.Rules.{open-line, station, end-run, drop-run, open-spur, openTests, closeTests, discrepancyWithin, inputTests, stationTests, bookRefusal}
 use Rattle.rules.specs.code.Seen.{numbered, numbersIn, beside, isAmong, seenIn}
+use Rattle.rules.specs.code.Opened.{openRefusal}
 use Rattle.rules.proofs.Unbroken.{empty-count}
 
 -- ---- what was seen, by whether the line is broken
@@ -70,17 +71,40 @@ module _ (b : Book) where
   pub began-alike : began w ≡ began v
   began-alike = ap (lastOf (b .line .opening .start .number)) (numbers-alike lent (b .sections) refl 0 (b .sections .count))
 
+  empty-alike : isEmpty (w .sections) ≡ isEmpty (v .sections)
+  empty-alike = empty-count lent ∙ sym (empty-count (b .sections))
+
   counted : length (w .sections) ≡ length (v .sections)
   counted = from-length lent 0 (b .sections .count) ∙ sym (from-length (b .sections) 0 (b .sections .count))
 
   counted-beside : length (beside (b .line) (b .sections .count) .sections) ≡ length (v .sections)
   counted-beside = from-length (numbered (b .sections .count) []) 0 (b .sections .count) ∙ sym (from-length (b .sections) 0 (b .sections .count))
 
+  -- of opening, whether a line or a spur
+  opened-alike : (ordered : Bool) (instrument number height : ℤ)
+      → openRefusal (beside (b .line) (b .sections .count)) ordered instrument number height ≡ openRefusal v ordered instrument number height
+  opened-alike ordered instrument number height =
+      λ i. firstOf (openTests ordered instrument number height ++ ((20, lineBroken (b .line) (counted-beside i)) ∷ (21, not (isFresh (b .line .stage))) ∷ []))
+
   pub open-alike : (order instrument number height : ℤ)
       → bookRefusal (beside (b .line) (b .sections .count)) (open-line order instrument number height) ≡ bookRefusal v (open-line order instrument number height)
   unfolding bookRefusal
-  open-alike order instrument number height =
-      λ i. firstOf (inputTests (open-line order instrument number height) ++ ((20, lineBroken (b .line) (counted-beside i)) ∷ (21, not (isFresh (b .line .stage))) ∷ []))
+  open-alike order instrument number height = opened-alike (eqZ order (pos 3) || eqZ order (pos 4)) instrument number height
+
+  pub spur-alike : (order instrument number height : ℤ)
+      → bookRefusal (beside (b .line) (b .sections .count)) (open-spur order instrument number height) ≡ bookRefusal v (open-spur order instrument number height)
+  unfolding bookRefusal
+  spur-alike order instrument number height = opened-alike (eqZ order (pos 4)) instrument number height
+
+  -- a closing up to 34
+  pub close-alike : (other : Bool) (number : ℤ) (unlike : Bool) → closeTests w other number unlike ≡ closeTests v other number unlike
+  close-alike other number unlike =
+      let l = b .line in
+      λ i.
+      (21, not (isOpen (l .stage)))
+      ∷ (41, other)
+      ∷ (33, not (eqb (l .present .count) 0) || isReturn (l .waiting) || empty-alike i)
+      ∷ (34, not (eqZ number (began-alike i)) || unlike) ∷ []
 
   pub station-alike : (kb kf : ℤ) (readings : List (List ℤ)) → bookRefusal w (station kb kf readings) ≡ bookRefusal v (station kb kf readings)
   unfolding bookRefusal
@@ -95,7 +119,6 @@ module _ (b : Book) where
   pub end-alike : (number : ℤ) → bookRefusal w (end-run number) ≡ bookRefusal v (end-run number)
   unfolding bookRefusal
   end-alike number =
-      let empty : isEmpty (w .sections) ≡ isEmpty (v .sections) = empty-count lent ∙ sym (empty-count (b .sections)) in
       let l = b .line in
       λ i.
       firstOf (inputTests (end-run number)
@@ -103,5 +126,5 @@ module _ (b : Book) where
       ∷ (21, not (isOpen (l .stage)) || shut-alike i)
       ∷ (29, eqb (l .present .count) 0 || eqb (l .present .count % 2) 1)
       ∷ (31, not (isReturn (l .waiting)) && leb 64 (counted i))
-      ∷ (30, not (cond (isReturn (l .waiting)) (eqZ number (began-alike i)) (not (on-alike number i) && not (eqZ number (l .opening .start .number) && empty i))))
+      ∷ (30, not (cond (isReturn (l .waiting)) (eqZ number (began-alike i)) (not (on-alike number i) && not (eqZ number (l .opening .start .number) && (empty-alike i || not (termsOf (l .opening .class) .tied))))))
       ∷ (32, outwardOrReturn (l .waiting) false (λ outward run. not (discrepancyWithin (termsOf (l .opening .class) .apart) (bothWays outward run (l .present))))) ∷ []))

@@ -12,7 +12,7 @@ use Rattle.adjust.specs.Sections.{misfit}
 use Rattle.numbers.proofs.Tests.{or-r}
 use Rattle.numbers.proofs.Tables.{eachNumber, numbered, testOf, failed, rises}
 use Rattle.rules.specs.Standing.{Standing, lineBroken}
-use Rattle.rules.specs.Rules.{Call, open-line, station, end-run, drop-run, drop-section, close-line, isClosing, broken, inputTests, stateTests, refusal, bookRefusal, before30}
+use Rattle.rules.specs.Rules.{Call, open-line, station, end-run, drop-run, drop-section, close-line, open-spur, close-spur, isClosing, broken, inputTests, stateTests, refusal, bookRefusal, rank}
 
 -- a call's tests, and those of a book, which also tests for 20
 abbrev pub tests : Standing → Call → List (ℕ × Bool)
@@ -30,22 +30,19 @@ pub record Tables (v : Standing) (c : Call) : Type 0 where
   pub twenty : testOf 20 (bookTests v c) ≡ broken v c
   pub no-twenty : eachNumber (λ n. not (eqb n 20)) (tests v c) ≡ true
   pub two-digits : eachNumber (λ n. leb n 99) (tests v c) ≡ true
-  -- the numbers rise, 31 before 30
-  pub rising : rises before30 0 (tests v c) ≡ true
-  pub book-rising : rises before30 0 (bookTests v c) ≡ true
-  -- and as they stand in every call but the end of a run
-  pub number-rising : ((n : ℤ) → c ≡ end-run n → ⊥) → rises (λ n. n) 0 (tests v c) ≡ true
-
-but-end : {b : Bool} (number : ℤ) → ((n : ℤ) → end-run number ≡ end-run n → ⊥) → b ≡ true
-but-end number k = absurd (k number refl)
+  -- the numbers rise by their rank
+  pub rising : rises rank 0 (tests v c) ≡ true
+  pub book-rising : rises rank 0 (bookTests v c) ≡ true
 
 pub tables : (v : Standing) (c : Call) → Tables v c
 tables v (open-line order instrument number height) = search needs
 tables v (station kb kf readings) = search needs
-tables v (end-run number) = search (needs, but-end)
+tables v (end-run number) = search needs
 tables v drop-run = search needs
 tables v drop-section = search needs
 tables v (close-line number end) = search needs
+tables v (open-spur order instrument number height) = search needs
+tables v (close-spur number) = search needs
 
 module _ (v : Standing) (c : Call) where
   pub fails : refusal v c ≡ 0 → (n : ℕ) → testOf n (tests v c) ≡ false

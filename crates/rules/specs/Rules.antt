@@ -1,8 +1,8 @@
 -- The rules: each call's tests, each beside its refusal number and in the order in which they are made, and what a call that is taken leaves
--- (document 01, 'Runs, sections and the standing list' and the two lists of refusals).
+-- (document 01, 'Runs, sections and the standing list' and the two lists of refusals; for spurs document 02, W-202).
 use mathlib.Core.Bool.{Bool, true, false, not, cond, _&&_, _||_}
 use mathlib.Core.List.{List, [], _∷_, _++_}
-use Prim.Native.Nat.{ℕ, _%_}
+use Prim.Native.Nat.{ℕ, _*_, _%_}
 use lib.ListN.{length}
 use lib.Dec.{leb, eqb}
 use lib.IntN.{ℤ, pos}
@@ -19,7 +19,7 @@ use Rattle.adjust.specs.declared.Section.{Section}
 use Rattle.adjust.specs.Sections.{misfit, heightInRange}
 use Rattle.adjust.specs.declared.Totals.{Totals}
 use Rattle.adjust.specs.declared.terms.Class.{Class}
-use Rattle.adjust.specs.declared.terms.Class.the-variants.{Third, Fourth}
+use Rattle.adjust.specs.declared.terms.Class.the-variants.{Third, Fourth, Spur}
 use Rattle.adjust.specs.declared.terms.Root.{Root}
 use Rattle.adjust.specs.declared.terms.Terms.{Terms}
 use Rattle.adjust.specs.Terms.{orderOf, termsOf}
@@ -31,8 +31,8 @@ use Rattle.rules.specs.declared.Waiting.the-variants.{Nothing, Outward}
 use Rattle.rules.specs.declared.Line.{Line}
 use Rattle.rules.specs.Standing.{Standing, isFresh, isOpen, isClosed, isEmpty, onLine, isShut, began, outwardOrReturn, isReturn, noRun, withStation, oneWay, bothWays, lineBroken}
 
--- open: order, instrument, start number and height; station: the constants and the readings, back and fore; end run: the benchmark's number;
--- close: the last number and the end height
+-- open, a line or a spur: order, instrument, start number and height; station: the constants and the readings, back and fore; end run: the benchmark's number;
+-- close: the last number, and of a line the end height
 pub data Call : Type 0 where
   open-line : ℤ → ℤ → ℤ → ℤ → Call
   station : ℤ → ℤ → List (List ℤ) → Call
@@ -40,6 +40,8 @@ pub data Call : Type 0 where
   drop-run : Call
   drop-section : Call
   close-line : ℤ → ℤ → Call
+  open-spur : ℤ → ℤ → ℤ → ℤ → Call
+  close-spur : ℤ → Call
 
 -- ---- the parts of the rules
 
@@ -58,11 +60,11 @@ abbrev pub outOfTurn : Line → ℤ → Bool
 outOfTurn l kb =
     cond (eqb (l .present .count) 0) (outwardOrReturn (l .waiting) false (λ number run. eqZ kb (run .last))) (not (eqZ kb (l .present .last)))
 
--- an outward run ends on a number not yet on the line, the start number alone excepted once a section stands; a return where its section began
+-- an outward run ends on a number not yet on the line, the start number alone excepted once a section stands, and never on a spur; a return where its section began
 abbrev pub numberAllowed : Standing → ℤ → Bool
 numberAllowed v number =
     cond (isReturn (v .line .waiting)) (eqZ number (began v))
-    (not (onLine v number) && not (eqZ number (v .line .opening .start .number) && isEmpty (v .sections)))
+    (not (onLine v number) && not (eqZ number (v .line .opening .start .number) && (isEmpty (v .sections) || not (termsOf (v .line .opening .class) .tied))))
 
 -- D within a root of R
 abbrev pub discrepancyWithin : Root → Section → Bool
@@ -78,16 +80,21 @@ closureWithin terms w l = isWithin (terms .closing .a) w (terms .closing .b) l
 
 -- ---- the tests
 
+-- of opening, with an order that is or is not one of those that may be opened so
+abbrev pub openTests : Bool → ℤ → ℤ → ℤ → List (ℕ × Bool)
+openTests ordered instrument number height =
+    (3, not (ordered && (eqZ instrument (pos 1) || eqZ instrument (pos 3)))) ∷ (4, not (numberInRange number)) ∷ (5, not (heightInRange height)) ∷ []
+
 -- what the input alone causes
 abbrev pub inputTests : Call → List (ℕ × Bool)
-inputTests (open-line order instrument number height) =
-    (3, not ((eqZ order (pos 3) || eqZ order (pos 4)) && (eqZ instrument (pos 1) || eqZ instrument (pos 3))))
-    ∷ (4, not (numberInRange number)) ∷ (5, not (heightInRange height)) ∷ []
+inputTests (open-line order instrument number height) = openTests (eqZ order (pos 3) || eqZ order (pos 4)) instrument number height
 inputTests (station kb kf readings) = readingTests (stationOf kb kf readings)
 inputTests (end-run number) = (4, not (numberInRange number)) ∷ []
 inputTests drop-run = []
 inputTests drop-section = []
 inputTests (close-line number end) = (4, not (numberInRange number)) ∷ (5, not (heightInRange end)) ∷ []
+inputTests (open-spur order instrument number height) = openTests (eqZ order (pos 4)) instrument number height
+inputTests (close-spur number) = (4, not (numberInRange number)) ∷ []
 
 -- of a line between its start and the end height: its length and its closure
 abbrev pub totalTests : Terms → Bool → Totals → List (ℕ × Bool)
@@ -108,6 +115,15 @@ stationTests l shut kb f =
 abbrev pub bookStationTests : Standing → ℤ → Figures → List (ℕ × Bool)
 bookStationTests v kb f = (20, lineBroken (v .line) (length (v .sections))) ∷ stationTests (v .line) (isShut v) kb f
 
+-- of a closing on a number, by END or by FIN, up to 34: whether the line is one that is closed by the other of the two, and whether the end height is not that of the
+-- start where it must be
+abbrev pub closeTests : Standing → Bool → ℤ → Bool → List (ℕ × Bool)
+closeTests v other number unlike =
+    (21, not (isOpen (v .line .stage)))
+    ∷ (41, other)
+    ∷ (33, not (eqb (v .line .present .count) 0) || isReturn (v .line .waiting) || isEmpty (v .sections))
+    ∷ (34, not (eqZ number (began v)) || unlike) ∷ []
+
 -- what the standing list causes
 abbrev pub stateTests : Standing → Call → List (ℕ × Bool)
 stateTests v (open-line order instrument number height) = (21, not (isFresh (v .line .stage))) ∷ []
@@ -121,10 +137,9 @@ stateTests v (end-run number) =
 stateTests v drop-run = (21, not (isOpen (v .line .stage))) ∷ []
 stateTests v drop-section = (21, not (isOpen (v .line .stage))) ∷ []
 stateTests v (close-line number end) =
-    (21, not (isOpen (v .line .stage)))
-    ∷ (33, not (eqb (v .line .present .count) 0) || isReturn (v .line .waiting) || isEmpty (v .sections))
-    ∷ (34, not (eqZ number (began v)) || (isShut v && not (eqZ end (v .line .opening .start .height))))
-    ∷ lineTests v end
+    closeTests v (not (termsOf (v .line .opening .class) .tied)) number (isShut v && not (eqZ end (v .line .opening .start .height))) ++ lineTests v end
+stateTests v (open-spur order instrument number height) = (21, not (isFresh (v .line .stage))) ∷ []
+stateTests v (close-spur number) = closeTests v (termsOf (v .line .opening .class) .tied) number false
 
 abbrev pub isClosing : Call → Bool
 isClosing (open-line order instrument number height) = false
@@ -133,6 +148,8 @@ isClosing (end-run number) = false
 isClosing drop-run = false
 isClosing drop-section = false
 isClosing (close-line number end) = true
+isClosing (open-spur order instrument number height) = false
+isClosing (close-spur number) = true
 
 -- refusal 20, by what is read: the line, or all sections too
 abbrev pub brokenIn : Bool → Standing → Bool
@@ -154,9 +171,9 @@ refusal v c = firstOf (inputTests c ++ stateTests v c)
 unfoldable pub bookRefusal : Standing → Call → ℕ
 bookRefusal v c = firstOf (inputTests c ++ ((20, broken v c) ∷ stateTests v c))
 
--- the order of the numbers: as they stand, but 31 before 30
-abbrev pub before30 : ℕ → ℕ
-before30 n = cond (eqb n 31) 30 (cond (eqb n 30) 31 n)
+-- the order in which the numbers are tested: as they stand, but 31 before 30, and 41 directly after 21
+abbrev pub rank : ℕ → ℕ
+rank n = cond (eqb n 31) 299 (cond (eqb n 41) 211 (10 * n))
 
 -- ---- what a call that is taken leaves
 
@@ -187,8 +204,8 @@ runEnded v number =
 abbrev pub begun : Opening → Line
 begun o = record { stage = Open; opening = o; end = pos 0; waiting = Nothing; present = noRun }
 
-abbrev pub openingOf : ℤ → ℤ → ℤ → ℤ → Opening
-openingOf order instrument number height = record { class = classOf order; instrument = instrumentOf instrument; start = record { number = number; height = height } }
+abbrev pub openingOf : Class → ℤ → ℤ → ℤ → Opening
+openingOf class instrument number height = record { class = class; instrument = instrumentOf instrument; start = record { number = number; height = height } }
 
 abbrev pub closedAt : Line → ℤ → Line
 closedAt l end =
@@ -201,7 +218,7 @@ closedAt l end =
     }
 
 abbrev pub taken : Standing → Call → Standing
-taken v (open-line order instrument number height) = record { line = begun (openingOf order instrument number height); sections = [] }
+taken v (open-line order instrument number height) = record { line = begun (openingOf (classOf order) instrument number height); sections = [] }
 taken v (station kb kf readings) =
     record {
       line = withRuns (v .line) (v .line .waiting) (withStation (v .line .present) (figuresOf (stationOf kb kf readings)) kf);
@@ -211,3 +228,6 @@ taken v (end-run number) = runEnded v number
 taken v drop-run = record { line = withRuns (v .line) (v .line .waiting) noRun; sections = v .sections }
 taken v drop-section = record { line = withRuns (v .line) Nothing noRun; sections = v .sections }
 taken v (close-line number end) = record { line = closedAt (v .line) end; sections = v .sections }
+taken v (open-spur order instrument number height) = record { line = begun (openingOf Spur instrument number height); sections = [] }
+-- the end height of a spur stays a placeholder
+taken v (close-spur number) = record { line = closedAt (v .line) (pos 0); sections = v .sections }

@@ -1,11 +1,13 @@
 // The refusals of closing.
 ghost use mathlib.Core.Path.{_≡_};
 ghost use mathlib.Core.Bool.{true, false};
+ghost use Prim.Native.Nat.{_≤_};
 ghost use Rattle.numbers.specs.Tables.{firstOf};
 ghost use Rattle.adjust.specs.Sections.{sectionsOf, heightInRange};
 ghost use Rattle.adjust.specs.Frames.{figuresFit};
 ghost use Rattle.rules.specs.Standing.{standingIn, isShut};
-ghost use Rattle.rules.specs.Rules.{close-line, broken, lengthLimit, totalTests, lineTests, figuresTests, inputTests, stateTests, bookRefusal};
+ghost use Rattle.rules.specs.code.Seen.{numbersIn};
+ghost use Rattle.rules.specs.Rules.{close-line, close-spur, closeTests, broken, lengthLimit, totalTests, lineTests, figuresTests, inputTests, stateTests, bookRefusal};
 use super::Line;
 use super::refusals::number_in_range;
 use super::state::began_at;
@@ -61,6 +63,31 @@ fn line_refusal(line: Line, sections: Sections, end: i64, shut: bool) -> u8
     }
 }
 
+// The refusal of a closing by END or by FIN, up to 34.
+fn closing_state(
+    line: Line,
+    count: usize,
+    numbers: &[i64; 64],
+    other: bool,
+    number: i64,
+    unlike: bool,
+) -> u8
+    requires { ⌜ count ≤ 64 ⌝ }
+    ensures { λ r. ⌜ r ≡ firstOf (closeTests (numbersIn line count (now (numbers .entry))) other number unlike) ⌝ }
+{
+    let stage = line.stage;
+    let waiting = line.waiting;
+    let began = began_at(line.opening.start.number, count, numbers);
+    let place = pick(!(number == began) | unlike, 34, 0);
+    let ready = pick(
+        !(line.present.count == 0) | is_return(waiting) | (count == 0),
+        33,
+        place,
+    );
+    let kind = pick(other, 41, ready);
+    pick(!is_open(stage), 21, kind)
+}
+
 fn close_state<'a>(
     line: Line,
     count: usize,
@@ -76,17 +103,13 @@ fn close_state<'a>(
         × (shut ≡ isShut (standingIn line count (now numbers) (now heights) (now distances) (now discrepancies)))) × (heightInRange end ≡ true) ⌝ }
     ensures { λ r. ⌜ r ≡ firstOf (stateTests (standingIn line count (now (numbers .entry)) (now (heights .entry)) (now (distances .entry)) (now (discrepancies .entry))) (close-line number end)) ⌝ }
 {
-    let stage = line.stage;
-    let waiting = line.waiting;
-    if !is_open(stage) {
-        return 21;
-    }
-    if !(line.present.count == 0) | is_return(waiting) | (count == 0) {
-        return 33;
-    }
-    let began = began_at(line.opening.start.number, count, numbers);
-    if !(number == began) | (shut & !(end == line.opening.start.height)) {
-        return 34;
+    let opening = line.opening;
+    let class = opening.class;
+    let terms = terms_of(class);
+    let unlike = shut & !(end == line.opening.start.height);
+    let code = closing_state(line, count, numbers, !terms.tied, number, unlike);
+    if code != 0 {
+        return code;
     }
     // a closing is made once a line: its sections may be copied
     let sections = Sections {
@@ -131,6 +154,31 @@ pub fn close_refusal<'a>(
         number,
         end,
     )
+}
+
+// Of a spur, which has no known end: 4, 20, 21, 41, 33 or 34, or 0.
+pub fn close_spur_refusal<'a>(
+    line: Line,
+    count: usize,
+    numbers: &'a [i64; 64],
+    heights: &'a [i64; 64],
+    distances: &'a [i64; 64],
+    discrepancies: &'a [i64; 64],
+    number: i64,
+) -> u8
+    ensures { λ r. ⌜ r ≡ bookRefusal (standingIn line count (now (numbers .entry)) (now (heights .entry)) (now (distances .entry)) (now (discrepancies .entry))) (close-spur number) ⌝ }
+{
+    if !number_in_range(number) {
+        return 4;
+    }
+    let misfit = adjust::table::misfits(count, heights, distances, discrepancies);
+    if misfit | line_broken(line, count) {
+        return 20;
+    }
+    let opening = line.opening;
+    let class = opening.class;
+    let terms = terms_of(class);
+    closing_state(line, count, numbers, terms.tied, number, false)
 }
 
 // The refusal of asking for the figures of a closed line: 20 or 21, or 0.

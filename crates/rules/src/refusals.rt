@@ -6,8 +6,9 @@ ghost use Rattle.numbers.specs.Whole.{eqZ};
 ghost use Rattle.numbers.specs.Tables.{firstOf};
 ghost use Rattle.rules.specs.Standing.{isShut, outwardOrReturn, bothWays};
 ghost use Rattle.rules.specs.code.Seen.{numbersIn, beside};
+ghost use Rattle.rules.specs.code.Opened.{openRefusal};
 ghost use Rattle.rules.specs.code.Bounds.{SmallRuns};
-ghost use Rattle.rules.specs.Rules.{open-line, end-run, drop-run, numberInRange, numberAllowed, discrepancyWithin, outOfTurn, inputTests, stationTests, bookStationTests, stateTests, bookRefusal};
+ghost use Rattle.rules.specs.Rules.{open-line, end-run, drop-run, open-spur, openTests, numberInRange, numberAllowed, discrepancyWithin, outOfTurn, stationTests, bookStationTests, stateTests, bookRefusal};
 use super::Line;
 use super::Run;
 use super::Waiting;
@@ -33,14 +34,35 @@ pub(crate) fn number_in_range(n: i64) -> bool
 
 // ---- open
 
-fn open_input(order: i64, instrument: i64, number: i64, height: i64) -> u8
-    ensures { λ r. ⌜ r ≡ firstOf (inputTests (open-line order instrument number height)) ⌝ }
+// Of a line or a spur, with an order that is or is not one of those that may be opened so.
+fn open_input(ordered: bool, instrument: i64, number: i64, height: i64) -> u8
+    ensures { λ r. ⌜ r ≡ firstOf (openTests ordered instrument number height) ⌝ }
 {
-    let orders = (order == 3) | (order == 4);
     let instruments = (instrument == 1) | (instrument == 3);
     let five = pick(!adjust::height_in_range(height), 5, 0);
     let four = pick(!number_in_range(number), 4, five);
-    pick(!(orders & instruments), 3, four)
+    pick(!(ordered & instruments), 3, four)
+}
+
+fn opening_refusal(
+    line: Line,
+    count: usize,
+    ordered: bool,
+    instrument: i64,
+    number: i64,
+    height: i64,
+) -> u8
+    ensures { λ r. ⌜ r ≡ openRefusal (beside line count) ordered instrument number height ⌝ }
+{
+    let input = open_input(ordered, instrument, number, height);
+    if input != 0 {
+        return input;
+    }
+    if line_broken(line, count) {
+        return 20;
+    }
+    let stage = line.stage;
+    pick(!is_fresh(stage), 21, 0)
 }
 
 pub fn open_refusal(
@@ -53,15 +75,22 @@ pub fn open_refusal(
 ) -> u8
     ensures { λ r. ⌜ r ≡ bookRefusal (beside line count) (open-line order instrument number height) ⌝ }
 {
-    let input = open_input(order, instrument, number, height);
-    if input != 0 {
-        return input;
-    }
-    if line_broken(line, count) {
-        return 20;
-    }
-    let stage = line.stage;
-    pick(!is_fresh(stage), 21, 0)
+    let ordered = (order == 3) | (order == 4);
+    opening_refusal(line, count, ordered, instrument, number, height)
+}
+
+// A spur is of fourth order.
+pub fn spur_refusal(
+    line: Line,
+    count: usize,
+    order: i64,
+    instrument: i64,
+    number: i64,
+    height: i64,
+) -> u8
+    ensures { λ r. ⌜ r ≡ bookRefusal (beside line count) (open-spur order instrument number height) ⌝ }
+{
+    opening_refusal(line, count, order == 4, instrument, number, height)
 }
 
 // ---- station
@@ -135,7 +164,10 @@ fn number_allowed(line: Line, count: usize, numbers: &[i64; 64], number: i64) ->
         let began = began_at(start, count, numbers);
         return number == began;
     }
-    !on_line(numbers, count, number) & !((number == start) & (count == 0))
+    let opening = line.opening;
+    let class = opening.class;
+    let terms = terms_of(class);
+    !on_line(numbers, count, number) & !((number == start) & ((count == 0) | !terms.tied))
 }
 
 // Whether an outward run and its return, the present run, are too far apart.

@@ -10,8 +10,8 @@ use lib.IntN.{ℤ, pos, negsuc}
 use Rattle.numbers.specs.Whole.{eqZ, written}
 use Rattle.records.specs.declared.Kind.{Kind}
 use Rattle.records.specs.declared.Kind.the-variants.{Record, Refused}
-use Rattle.records.specs.declared.Tag.the-variants.{Lin, Sta, Run, Drr, Drs, End}
-use Rattle.rules.specs.Rules.{open-line, station, close-line}
+use Rattle.records.specs.declared.Tag.the-variants.{Lin, Sta, Run, Drr, Drs, End, Spr, Fin}
+use Rattle.rules.specs.Rules.{open-line, station, close-line, open-spur, close-spur}
 use Rattle.ledger.specs.Entries.{Entry, asks, refused, entryOf}
 
 -- the record of a kind
@@ -23,7 +23,9 @@ kindOf k =
     (cond (eqZ k (pos 4)) (Record Drr)
     (cond (eqZ k (pos 5)) (Record Drs)
     (cond (eqZ k (pos 6)) (Record End)
-    (Refused 1))))))
+    (cond (eqZ k (pos 7)) (Record Spr)
+    (cond (eqZ k (pos 8)) (Record Fin)
+    (Refused 1))))))))
 
 -- the first entry of a list, refused where the list is too short for it
 unfoldable pub firstEntry : List ℤ → Entry
@@ -48,13 +50,15 @@ example =
     pos 1 ∷ pos 4 ∷ pos 3 ∷ pos 1 ∷ pos 10000 ∷ nothingMore
     ++ (pos 2 ∷ pos 4687 ∷ pos 1571 ∷ pos 1197 ∷ pos 1384 ∷ pos 6171 ∷ pos 4787 ∷ pos 739 ∷ pos 363 ∷ pos 551 ∷ pos 5239 ∷ [])
     ++ (pos 6 ∷ pos 2 ∷ negsuc 0 ∷ pos 0 ∷ pos 0 ∷ nothingMore)
-    ++ (pos 7 ∷ pos 2 ∷ pos 0 ∷ pos 0 ∷ pos 0 ∷ nothingMore)
+    ++ (pos 7 ∷ pos 4 ∷ pos 3 ∷ pos 1 ∷ pos 10000 ∷ nothingMore)
+    ++ (pos 8 ∷ pos 2 ∷ pos 0 ∷ pos 0 ∷ pos 0 ∷ nothingMore)
+    ++ (pos 9 ∷ pos 2 ∷ pos 0 ∷ pos 0 ∷ pos 0 ∷ nothingMore)
     ++ (pos 4 ∷ [])
 
 pub example-entries : entriesOf example
     ≡ asks (open-line (pos 4) (pos 3) (pos 1) (pos 10000))
     ∷ asks (station (pos 4687) (pos 4787) ((pos 1571 ∷ pos 1197 ∷ pos 1384 ∷ pos 6171 ∷ []) ∷ (pos 739 ∷ pos 363 ∷ pos 551 ∷ pos 5239 ∷ []) ∷ []))
-    ∷ asks (close-line (pos 2) (negsuc 0)) ∷ refused 1 ∷ refused 1 ∷ []
+    ∷ asks (close-line (pos 2) (negsuc 0)) ∷ asks (open-spur (pos 4) (pos 3) (pos 1) (pos 10000)) ∷ asks (close-spur (pos 2)) ∷ refused 1 ∷ refused 1 ∷ []
 unfolding firstEntries firstEntry kindOf
 example-entries = refl
 

@@ -28,6 +28,8 @@ fn kind_of(number: i64) -> Kind
         4 => Kind::Record(Tag::Drr),
         5 => Kind::Record(Tag::Drs),
         6 => Kind::Record(Tag::End),
+        7 => Kind::Record(Tag::Spr),
+        8 => Kind::Record(Tag::Fin),
         _ => Kind::Refused(1),
     }
 }

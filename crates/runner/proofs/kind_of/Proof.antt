@@ -18,12 +18,12 @@ case s e = ap kindOf (ap (toZ w64) (sym e) ∙ stored-id (s .fits .number))
 none : (s : tie.Start) {n : ℕ} → (ofZ w64 (s .args .number) ≡ n → ⊥) → eqZ (s .args .number) (pos n) ≡ false
 none s {n} f = eqZ-ne (s .args .number) (pos n) (λ e. f (ap (ofZ w64) e))
 
-returns-7 : tie.Need-returns-7
+returns-9 : tie.Need-returns-9
 unfolding kindOf
-returns-7 c =
+returns-9 c =
     let s = c .before in
     let n = c .match .rest in
-    rw (none s (n .0 .0 .0 .0 .0 .1), none s (n .0 .0 .0 .0 .1), none s (n .0 .0 .0 .1), none s (n .0 .0 .1), none s (n .0 .1), none s (n .1))
+    rw (none s (n .0 .0 .0 .0 .0 .0 .0 .1), none s (n .0 .0 .0 .0 .0 .0 .1), none s (n .0 .0 .0 .0 .0 .1), none s (n .0 .0 .0 .0 .1), none s (n .0 .0 .0 .1), none s (n .0 .0 .1), none s (n .0 .1), none s (n .1))
 
 pub kind-of-spec : {M : Type 1} → statement M
 unfolding kindOf
@@ -36,4 +36,6 @@ kind-of-spec =
     (λ c. case (c .before) (c .match .keys4))
     (λ c. case (c .before) (c .match .keys5))
     (λ c. case (c .before) (c .match .keys6))
-    returns-7)
+    (λ c. case (c .before) (c .match .keys7))
+    (λ c. case (c .before) (c .match .keys8))
+    returns-9)

@@ -11,11 +11,17 @@ enum-told c = search needs
 enum-told-2 : tie.Need-enum-told-2
 enum-told-2 c = search needs
 
+enum-told-3 : tie.Need-enum-told-3
+enum-told-3 c = search needs
+
 returns : tie.Need-returns
 returns c = sym (ap termsOf (c .enum-told .given .1))
 
 returns-2 : tie.Need-returns-2
 returns-2 c = sym (ap termsOf (c .enum-told2 .given .1))
 
+returns-3 : tie.Need-returns-3
+returns-3 c = sym (ap termsOf (c .enum-told3 .given .1))
+
 pub terms-of-spec : {M : Type 1} → statement M
-terms-of-spec = tie.close (tie.spec enum-told enum-told-2 returns returns-2)
+terms-of-spec = tie.close (tie.spec enum-told enum-told-2 enum-told-3 returns returns-2 returns-3)

@@ -8,10 +8,10 @@ use Rattle.rules.specs.declared.Book.{Book}
 use Rattle.rules.specs.Standing.{standingOf, bookIn}
 use Rattle.rules.specs.Rules.{Call, bookRefusal}
 use Rattle.rules.specs.Records.{argument, callOf}
-use Rattle.rules.proofs.Looked.{open-alike, station-alike, drop-alike, end-alike}
+use Rattle.rules.proofs.Looked.{open-alike, spur-alike, station-alike, drop-alike, end-alike}
 use Rattle.book.specs.declared.Change.{Change}
 use Rattle.book.specs.code.Changes.{changeBy, changeOf}
-use Rattle.book.proofs.Joined.{open-as, end-as, close-as}
+use Rattle.book.proofs.Joined.{open-as, end-as, close-as, spur-as, close-spur-as}
 use borrow.Author.Needs.{needs}
 use Rattle.book.proofs.decisions.decide.Statement.{statement}
 use Rattle.book.proofs.decisions.decide.Tie as tie
@@ -142,6 +142,61 @@ returns-6 c =
     let s = k .before .before in
     told s (k .enum-told6 .given .1) (close-as (close-1 (d .before)) (close-2 d)) refl (c .close-change .ensures)
 
+enum-told-7 : tie.Need-enum-told-7
+enum-told-7 c = search needs
+
+array-copy-out-spur-change : tie.Need-array-copy-out-spur-change
+array-copy-out-spur-change c = search needs
+
+array-copy-out-spur-change-2 : tie.Need-array-copy-out-spur-change-2
+array-copy-out-spur-change-2 c = search needs
+
+array-copy-out-spur-change-3 : tie.Need-array-copy-out-spur-change-3
+array-copy-out-spur-change-3 c = search needs
+
+array-copy-out-spur-change-4 : tie.Need-array-copy-out-spur-change-4
+array-copy-out-spur-change-4 c = search needs
+
+spur-change-requires : tie.Need-spur-change-requires
+spur-change-requires c κs = search needs
+
+spur-1 : (c : tie.After-spur-change-arg) → SFits w64 (argument (c .before .before .before .args .t8) 0)
+spur-1 c = search needs
+
+spur-2 : (c : tie.After-spur-change-arg2) → SFits w64 (argument (c .before .before .before .before .args .t8) 1)
+spur-2 c = search needs
+
+spur-3 : (c : tie.After-spur-change-arg3) → SFits w64 (argument (c .before .before .before .before .before .args .t8) 2)
+spur-3 c = search needs
+
+spur-4 : (c : tie.After-spur-change-arg4) → SFits w64 (argument (c .before .before .before .before .before .before .args .t8) 3)
+spur-4 c = search needs
+
+returns-7 : tie.Need-returns-7
+returns-7 c =
+    let d = c .before in
+    let k = d .before .before .before .before in
+    let s = k .before .before in
+    told s (k .enum-told7 .given .1) (spur-as (spur-1 (d .before .before .before)) (spur-2 (d .before .before)) (spur-3 (d .before)) (spur-4 d)) (spur-alike (book s) _ _ _ _) (c .spur-change .ensures)
+
+enum-told-8 : tie.Need-enum-told-8
+enum-told-8 c = search needs
+
+array-copy-out-close-spur-change : tie.Need-array-copy-out-close-spur-change
+array-copy-out-close-spur-change c = search needs
+
+close-spur-change-requires : tie.Need-close-spur-change-requires
+close-spur-change-requires c κs = search needs
+
+close-spur-1 : (c : tie.After-close-spur-change-arg) → SFits w64 (argument (c .before .before .before .args .t8) 0)
+close-spur-1 c = search needs
+
+returns-8 : tie.Need-returns-8
+returns-8 c =
+    let k = c .before .before in
+    let s = k .before .before in
+    told s (k .enum-told8 .given .1) (close-spur-as (close-spur-1 (c .before))) refl (c .close-spur-change .ensures)
+
 pub decide-spec : {M : Type 1} → statement M
 decide-spec =
     tie.close
@@ -165,9 +220,20 @@ decide-spec =
     array-copy-out-close-change
     array-copy-out-close-change-2
     close-change-requires
+    enum-told-7
+    array-copy-out-spur-change
+    array-copy-out-spur-change-2
+    array-copy-out-spur-change-3
+    array-copy-out-spur-change-4
+    spur-change-requires
+    enum-told-8
+    array-copy-out-close-spur-change
+    close-spur-change-requires
     returns
     returns-2
     returns-3
     returns-4
     returns-5
-    returns-6)
+    returns-6
+    returns-7
+    returns-8)

@@ -1,12 +1,12 @@
 -- `put_closed` meets its contract.
-use mathlib.Core.Path.{_∙_}
+use mathlib.Core.Path.{ap, _∙_}
 use mathlib.Core.Bool.{false}
 use mathlib.Core.List.{[], _∷_}
 use native.Mathlib.Omega.{arith}
 use Rattle.columns.specs.Buffers.{placed}
 use Rattle.columns.specs.Lines.{tagLine}
 use Rattle.numbers.proofs.Machine.{stored-id, cast-nat}
-use Rattle.fieldbook.specs.Report.{closedNumbers}
+use Rattle.fieldbook.specs.Report.{shownT, closedNumbers}
 use Rattle.fieldbook.proofs.Written.{line-put}
 use mir.Syntax.{w8, w64}
 use mir.Val.{Fits, SFits}
@@ -19,6 +19,9 @@ cast-count c = search needs
 
 cast-verdict : tie.Need-cast-verdict
 cast-verdict c = search needs
+
+shown-t-requires : tie.Need-shown-t-requires
+shown-t-requires c κs = search needs
 
 slice-aggregate-put-line : tie.Need-slice-aggregate-put-line
 slice-aggregate-put-line c = search needs
@@ -46,13 +49,16 @@ verdict s = search needs
 
 returns : tie.Need-returns
 returns c =
-    let s = c .before .before .before .before .before .before .before .before .before .before in
+    let s = c .before .before .before .before .before .before .before .before .before .before .before .before in
     let d = s .args .buf .now in
     let x = s .args .s in
+    let k = c .before .before .before .before .before .before .before in
+    let f : SFits w64 (k .shown-t .result) = record { sfits = k .shown-t .ok } in
+    let shown = stored-id f ∙ k .shown-t .ensures ∙ ap shownT (stored-id (accidental s)) in
     c .before .before .put-line .ensures .1
     ∙ (λ i. placed d (s .args .at)
     (tagLine (67 ∷ 76 ∷ 79 ∷ [])
-    (stored-id (closure s) i ∷ stored-id (distance s) i ∷ cast-nat (x .count) (omega arith) i ∷ stored-id (accidental s) i
+    (stored-id (closure s) i ∷ stored-id (distance s) i ∷ cast-nat (x .count) (omega arith) i ∷ shown i
     ∷ cast-nat (x .verdict) (omega (arith, verdict s .fits)) i ∷ []) false))
     ∙ line-put d (s .args .at) (67 ∷ 76 ∷ 79 ∷ []) (closedNumbers x) false (s .pre .1 .1) (s .pre .0)
 
@@ -62,6 +68,7 @@ put-closed-spec =
     (tie.spec
     cast-count
     cast-verdict
+    shown-t-requires
     slice-aggregate-put-line
     slice-aggregate-put-line-2
     put-line-requires

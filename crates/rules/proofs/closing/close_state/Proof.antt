@@ -1,26 +1,28 @@
--- `close_state` meets its contract: the tests in the order of the table, and those of the line only where its figures fit.
+-- `close_state` meets its contract: the tests up to 34, and those of the line only where its figures fit.
 use mathlib.Core.Path.{_≡_, refl, sym, ap, _∙_}
 use mathlib.Core.Bool.{Bool, true, false, not, cond, _&&_, _||_}
-use mathlib.Core.List.{map}
+use mathlib.Core.List.{List}
+use Prim.Native.Nat.{ℕ}
 use lib.Dec.{eqb}
 use lib.ListN.{length}
 use lib.IntN.{ℤ}
 use mir.Syntax.{w64}
-use mir.Val.{SFits, ofZ}
-use Rattle.numbers.specs.Whole.{eqZ, lastOf}
+use mir.Val.{SFits}
+use Rattle.numbers.specs.Whole.{eqZ}
 use Rattle.numbers.specs.Tables.{firstOf}
 use Rattle.numbers.proofs.Equal.{eq-as}
 use Rattle.numbers.proofs.Machine.{stored-id}
+use Rattle.numbers.proofs.Tables.{failed, first-append, zero-cond, nonzero-cond}
 use Rattle.numbers.proofs.Tests.{or-l, or-r}
-use Rattle.adjust.specs.declared.Section.{Section}
 use Rattle.adjust.specs.Sections.{sectionsOf, misfit}
+use Rattle.adjust.specs.Terms.{termsOf}
 use Rattle.adjust.specs.Frames.{figuresFit}
 use Rattle.rules.specs.declared.Book.{Book}
-use Rattle.rules.specs.Standing.{standingOf, bookIn, isOpen, isReturn, isEmpty, isShut, began, lineBroken}
-use Rattle.rules.specs.code.Seen.{numbered}
-use Rattle.rules.specs.Rules.{close-line, lineTests, stateTests}
-use Rattle.rules.proofs.Unbroken.{Unbroken, unbroken, empty-count, some-long}
-use Rattle.rules.proofs.Looked.{counted-broken, began-alike}
+use Rattle.rules.specs.Standing.{Standing, standingOf, bookIn, isReturn, isEmpty, isShut, lineBroken}
+use Rattle.rules.specs.code.Seen.{numbersIn}
+use Rattle.rules.specs.Rules.{close-line, closeTests, lineTests, stateTests}
+use Rattle.rules.proofs.Unbroken.{Unbroken, unbroken, some-long}
+use Rattle.rules.proofs.Looked.{counted-broken, close-alike}
 use borrow.Author.Needs.{needs}
 use Rattle.rules.proofs.closing.close_state.Statement.{statement}
 use Rattle.rules.proofs.closing.close_state.Tie as tie
@@ -29,20 +31,11 @@ use Rattle.rules.proofs.closing.close_state.Tie as tie
 abbrev book : tie.Start → Book
 book s = bookIn (s .args .line) (s .args .count) (s .args .numbers .now) (s .args .heights .now) (s .args .distances .now) (s .args .discrepancies .now)
 
--- ---- the table
-
--- the tests of 33 and 34
-abbrev unready : tie.Start → Bool
-unready s = not (eqb (s .args .line .present .count) 0) || isReturn (s .args .line .waiting) || isEmpty (sectionsOf (book s .sections))
-
-abbrev astray : tie.Start → Bool
-astray s = not (eqZ (s .args .number) (began (standingOf (book s)))) || (isShut (standingOf (book s)) && not (eqZ (s .args .end) (s .args .line .opening .start .height)))
-
--- the number by the first three tests
-by-flags : (s : tie.Start) (t21 t33 t34 : Bool) → not (isOpen (s .args .line .stage)) ≡ t21 → unready s ≡ t33 → astray s ≡ t34
-    → firstOf (stateTests (standingOf (book s)) (close-line (s .args .number) (s .args .end)))
-    ≡ cond t21 21 (cond t33 33 (cond t34 34 (firstOf (lineTests (standingOf (book s)) (s .args .end)))))
-by-flags s t21 t33 t34 e f g = λ i. cond (e i) 21 (cond (f i) 33 (cond (g i) 34 (firstOf (lineTests (standingOf (book s)) (s .args .end)))))
+-- the tests up to 34
+abbrev early : tie.Start → List (ℕ × Bool)
+early s =
+    let v : Standing = standingOf (book s) in
+    closeTests v (not (termsOf (s .args .line .opening .class) .tied)) (s .args .number) (isShut v && not (eqZ (s .args .end) (s .args .line .opening .start .height)))
 
 -- its sections are in range, and its line is unbroken
 in-range : (s : tie.Start) → misfit (sectionsOf (book s .sections)) ≡ false
@@ -54,119 +47,66 @@ whole s =
     unbroken (s .args .line) (s .args .count)
     (sym (counted-broken (b .line) (b .sections)) ∙ or-r (misfit (sectionsOf (b .sections))) (lineBroken (b .line) (length (sectionsOf (b .sections)))) (s .pre .0 .0))
 
--- ---- 21
-
-is-open-requires : tie.Need-is-open-requires
-is-open-requires c κs = search needs
-
-not-open : (c : tie.After-is-open) (t : Bool) → not (c .is-open .result) ≡ t → not (isOpen (c .before .args .line .stage)) ≡ t
-not-open c t e = sym (ap not (c .is-open .ensures)) ∙ e
-
-returns : tie.Need-returns
-returns c =
-    let s = c .before .before in
-    sym (by-flags s true (unready s) (astray s) (not-open (c .before) true (c .if1 .taken)) refl refl)
-
--- ---- 33
-
-is-return-requires : tie.Need-is-return-requires
-is-return-requires c κs = search needs
-
-abbrev start-33 : tie.After-is-return → tie.Start
-start-33 c = c .before .before .before .before
-
-not-ready :
-    (c : tie.After-is-return) (t : Bool)
-    → not (eqb (start-33 c .args .line .present .count) 0) || c .is-return .result || eqb (start-33 c .args .count) 0 ≡ t
-    → unready (start-33 c) ≡ t
-not-ready c t e =
-    let b = book (start-33 c) in
-    (λ i. not (eqb (b .line .present .count) 0) || sym (c .is-return .ensures) i || empty-count (b .sections) i) ∙ e
-
-returns-2 : tie.Need-returns-2
-returns-2 c =
-    let r = c .before in
-    let o = r .before .before in
-    let s = start-33 r in
-    sym (by-flags s false true (astray s) (not-open (o .before) false (o .if1 .left)) (not-ready r true (c .if2 .taken)) refl)
-
--- ---- 34
-
-began-at-requires : tie.Need-began-at-requires
-began-at-requires c κs = whole (start-33 (c .before .before)) .few
-
-start-fits : (s : tie.Start) → SFits w64 (s .args .line .opening .start .number)
-start-fits s = search needs
+terms-of-requires : tie.Need-terms-of-requires
+terms-of-requires c κs = search needs
 
 height-fits : (s : tie.Start) → SFits w64 (s .args .line .opening .start .height)
 height-fits s = search needs
 
--- the place after the test of 33
-abbrev ready : tie.After-struct-told2 → tie.Else2
-ready c = c .before .before .before .before
+closing-state-requires : tie.Need-closing-state-requires
+closing-state-requires c κs = whole (c .before .before .before .before .before) .few
 
-not-there :
-    (c : tie.After-struct-told2) (t : Bool)
-    → not (eqb (ofZ w64 (start-33 (ready c .before) .args .number)) (ofZ w64 (c .before .before .began-at .result)))
-    || (start-33 (ready c .before) .args .shut && not (eqb (ofZ w64 (start-33 (ready c .before) .args .end)) (ofZ w64 (start-33 (ready c .before) .args .line .opening .start .height)))) ≡ t
-    → astray (start-33 (ready c .before)) ≡ t
-not-there c t e =
-    let s = start-33 (ready c .before) in
-    let a = c .before .before in
-    let f : SFits w64 (a .began-at .result) = record { sfits = a .began-at .ok } in
-    let n = a .began-at .ensures ∙ ap (λ (n : ℤ). lastOf n (map (λ (x : Section). x .number) (sectionsOf (numbered (s .args .count) (s .args .numbers .now))))) (stored-id (start-fits s)) ∙ began-alike (book s) in
-    let place = eq-as (s .fits .number) f ∙ ap (eqZ (s .args .number)) n in
-    let height = eq-as (s .fits .end) (height-fits s) in
-    sym (λ i. not (place i) || (s .pre .0 .1 i && not (height i))) ∙ e
+abbrev start : tie.After-closing-state → tie.Start
+start m = m .before .before .before .before .before .before
 
--- 21 and 33 do not apply
-past-33 : (c : tie.After-struct-told2) (t : Bool) → astray (start-33 (ready c .before)) ≡ t
-    → firstOf (stateTests (standingOf (book (start-33 (ready c .before)))) (close-line (start-33 (ready c .before) .args .number) (start-33 (ready c .before) .args .end)))
-    ≡ cond t 34 (firstOf (lineTests (standingOf (book (start-33 (ready c .before)))) (start-33 (ready c .before) .args .end)))
-past-33 c t e =
-    let r = ready c in
-    let o = r .before .before .before in
-    by-flags (start-33 (r .before)) false false t (not-open (o .before) false (o .if1 .left)) (not-ready (r .before) false (r .if2 .left)) e
+number : (m : tie.After-closing-state) → m .closing-state .result ≡ firstOf (early (start m))
+number m =
+    let t = m .before .before .before .before in
+    let s = start m in
+    let seen = numbersIn (s .args .line) (s .args .count) (s .args .numbers .now) in
+    m .closing-state .ensures
+    ∙ (λ i. firstOf (closeTests seen (not (t .terms-of .ensures i .tied)) (stored-id (s .fits .number) i) (s .pre .0 .1 i && not (eq-as (s .fits .end) (height-fits s) i))))
+    ∙ ap firstOf (close-alike (book s) (not (termsOf (s .args .line .opening .class) .tied)) (s .args .number)
+    (isShut (standingOf (book s)) && not (eqZ (s .args .end) (s .args .line .opening .start .height))))
 
-returns-3 : tie.Need-returns-3
-returns-3 c = sym (past-33 (c .before) true (not-there (c .before) true (c .if3 .taken)))
+-- the number of all tests, by that of the early ones
+by-early : (s : tie.Start) {n : ℕ} → n ≡ firstOf (early s)
+    → firstOf (stateTests (standingOf (book s)) (close-line (s .args .number) (s .args .end))) ≡ cond (eqb n 0) (firstOf (lineTests (standingOf (book s)) (s .args .end))) n
+by-early s e =
+    let later = lineTests (standingOf (book s)) (s .args .end) in
+    first-append (early s) later refl ∙ (λ i. cond (eqb (sym e i) 0) (firstOf later) (sym e i))
 
--- ---- 35 and 36
+returns : tie.Need-returns
+returns c =
+    let m = c .before in
+    let s = start m in
+    sym (by-early s (number m) ∙ nonzero-cond (m .closing-state .result) (firstOf (lineTests (standingOf (book s)) (s .args .end))) (m .closing-state .result) (c .if1 .taken))
 
--- a ready book's figures fit
-fit : (s : tie.Start) → unready s ≡ false → figuresFit (s .args .line .opening .start .height) (s .args .end) (sectionsOf (book s .sections)) ≡ true
+-- where the early tests fail, the figures fit
+fit : (s : tie.Start) → firstOf (early s) ≡ 0 → figuresFit (s .args .line .opening .start .height) (s .args .end) (sectionsOf (book s .sections)) ≡ true
 unfolding figuresFit
 fit s e =
     let b = book s in
-    let some = or-r (not (eqb (b .line .present .count) 0) || isReturn (b .line .waiting)) (isEmpty (sectionsOf (b .sections))) e in
+    let some = or-r (not (eqb (b .line .present .count) 0) || isReturn (b .line .waiting)) (isEmpty (sectionsOf (b .sections))) (failed (early s) refl e 33) in
     λ i. some-long (sectionsOf (b .sections)) some i && not (in-range s i) && whole s .start i && s .pre .1 i
 
 line-refusal-requires : tie.Need-line-refusal-requires
 line-refusal-requires c κs =
-    let r = ready (c .before .before .before .before .before) in
-    let s = start-33 (r .before) in (
-      ap (λ (z : ℤ). figuresFit (s .args .line .opening .start .height) z (sectionsOf (book s .sections))) (stored-id (s .fits .end)) ∙ fit s (not-ready (r .before) false (r .if2 .left)),
+    let e = c .before .before .before .before in
+    let m = e .before in
+    let s = start m in (
+      ap (λ (z : ℤ). figuresFit (s .args .line .opening .start .height) z (sectionsOf (book s .sections))) (stored-id (s .fits .end)) ∙ fit s (sym (number m) ∙ e .if1 .left),
       s .pre .0 .1,
     )
 
-returns-4 : tie.Need-returns-4
-returns-4 c =
+returns-2 : tie.Need-returns-2
+returns-2 c =
     let e = c .before .before .before .before .before in
-    let d = e .before in
-    let s = start-33 (ready d .before) in
+    let m = e .before in
+    let s = start m in
     c .line-refusal .ensures
     ∙ ap (λ (z : ℤ). firstOf (lineTests (standingOf (book s)) z)) (stored-id (s .fits .end))
-    ∙ sym (past-33 d false (not-there d false (e .if3 .left)))
+    ∙ sym (by-early s (number m) ∙ zero-cond (m .closing-state .result) (firstOf (lineTests (standingOf (book s)) (s .args .end))) (m .closing-state .result) (e .if1 .left))
 
 pub close-state-spec : {M : Type 1} → statement M
-close-state-spec =
-    tie.close
-    (tie.spec
-    is-open-requires
-    returns
-    is-return-requires
-    returns-2
-    began-at-requires
-    returns-3
-    line-refusal-requires
-    returns-4)
+close-state-spec = tie.close (tie.spec terms-of-requires closing-state-requires returns line-refusal-requires returns-2)

@@ -33,15 +33,13 @@ returns c =
     let five = numbers .before in
     let heights = five .before in
     let s = heights .before in
-    let o = s .fits .order in
     let n = s .fits .instrument in
     let height = heights .height-in-range .ensures ∙ ap heightInRange (stored-id (s .fits .height)) in
     let number = numbers .number-in-range .ensures ∙ ap numberInRange (stored-id (s .fits .number)) in
     let e5 = five .pick .ensures ∙ (λ i. cond (not (height i)) 5 0) in
     let e4 = four .pick2 .ensures ∙ (λ i. cond (not (number i)) 4 (e5 i)) in
     c .pick3 .ensures
-    ∙ (λ i. cond (not ((eq-as o (sfits-lit {z = pos 3} tt) i || eq-as o (sfits-lit {z = pos 4} tt) i)
-    && (eq-as n (sfits-lit {z = pos 1} tt) i || eq-as n (sfits-lit {z = pos 3} tt) i))) 3 (e4 i))
+    ∙ (λ i. cond (not (s .args .ordered && (eq-as n (sfits-lit {z = pos 1} tt) i || eq-as n (sfits-lit {z = pos 3} tt) i))) 3 (e4 i))
 
 pub open-input-spec : {M : Type 1} → statement M
 open-input-spec =
