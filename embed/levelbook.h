@@ -54,9 +54,10 @@ uint8_t level_adjust(const struct level_leg *legs, size_t count, int64_t start, 
 
 /* A list of entries on a fresh book, LEVEL_CALL_NUMBERS numbers an entry. An entry's first number is its kind, the others are its call's arguments, and
  * those that the call does not have are not looked at:
- *   1 open: order, instrument, start number, start height     4 drop run
- *   2 station: K, u, l, m, r of the back staff, then fore     5 drop section
- *   3 end run: number                                         6 close line: number, height
+ *   1 open: order, instrument, start number, start height     5 drop section
+ *   2 station: K, u, l, m, r of the back staff, then fore     6 close line: number, height
+ *   3 end run: number                                         7 open spur: as 1, order 4 alone
+ *   4 drop run                                                8 close spur: number
  * An entry of another kind is refused with 1, and so is a rest of 1 to 10 numbers at the end, which is one entry more; nothing else of them is looked
  * at, and the book stays as it is. The answer is how many entries there are. Each entry's number goes into its place of `numbers`, the figures of the
  * book that is left into `figures`, both as far as there are places. There are LEVEL_FIGURES figures: W, L, n, T and verdict, 0 while the line is not

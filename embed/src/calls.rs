@@ -24,6 +24,10 @@ pub enum Call {
     DropSection,
     /// Closes the line on its last benchmark, whose known height is in mm.
     CloseLine { number: i64, height: i64 },
+    /// Opens a spur, which is levelled out and back: as `Open`, but order 4 alone.
+    OpenSpur { order: i64, instrument: i64, start: i64, height: i64 },
+    /// Closes the spur on its last benchmark.
+    CloseSpur { number: i64 },
 }
 
 impl Call {
@@ -38,6 +42,8 @@ impl Call {
             Call::DropRun => [4, 0, 0, 0, 0, 0, 0, 0, 0, 0, 0],
             Call::DropSection => [5, 0, 0, 0, 0, 0, 0, 0, 0, 0, 0],
             Call::CloseLine { number, height } => [6, number, height, 0, 0, 0, 0, 0, 0, 0, 0],
+            Call::OpenSpur { order, instrument, start, height } => [7, order, instrument, start, height, 0, 0, 0, 0, 0, 0],
+            Call::CloseSpur { number } => [8, number, 0, 0, 0, 0, 0, 0, 0, 0, 0],
         }
     }
 }
@@ -57,14 +63,14 @@ pub struct Point {
 /// The figures of a closed line.
 #[derive(Clone, Debug, PartialEq, Eq)]
 pub struct Closing {
-    /// W, in quarter mm.
+    /// W, in quarter mm; 0 on a spur, which has no known end height.
     pub closure: i64,
     /// L, in half dm.
     pub length: i64,
     pub sections: i64,
-    /// T, 0 at fourth order.
+    /// T; 0 on a fourth-order line. Here it is whole where CLO prints 99,999,999 for a larger one.
     pub accidental: i64,
-    /// 1 for a T of at most 3,600 a section, 2 for one above it, 0 where it is not judged: fewer than 20 sections, or fourth order.
+    /// 1 for a T of at most 3,600 a section (spur: 10,000), 2 for one above it, 0 where it is not judged: fewer than 20 sections, or a fourth-order line.
     pub verdict: i64,
     /// The start, and the end of each section.
     pub points: Vec<Point>,
@@ -114,6 +120,30 @@ pub struct Outcome {
 /// assert!(meaning(23).unwrap().starts_with("staff out of turn"));
 /// let closing = outcome.closing.unwrap();
 /// assert_eq!((closing.closure, closing.length, closing.points[1].height), (4, 2_564, 10_657));
+/// ```
+///
+/// The same stations on a spur, which is levelled back as well and has no known end height:
+///
+/// ```
+/// # use levelbook::{run_calls, Call, Staff};
+/// # let staff = |constant, [upper, lower, black, red]: [i64; 4]| Staff { constant, upper, lower, black, red };
+/// # let first = Call::Station { back: staff(4787, [1571, 1197, 1384, 6171]), fore: staff(4687, [739, 363, 551, 5239]) };
+/// # let second = Call::Station { back: staff(4687, [1965, 1700, 1832, 6519]), fore: staff(4787, [2141, 1874, 2007, 6793]) };
+/// let outcome = run_calls(&[
+///     Call::OpenSpur { order: 4, instrument: 3, start: 1, height: 10_000 },
+///     first,
+///     second,
+///     Call::EndRun { number: 2 },
+///     Call::Station { back: staff(4687, [2141, 1874, 2007, 6693]), fore: staff(4787, [1965, 1700, 1832, 6619]) },
+///     Call::Station { back: staff(4787, [739, 363, 551, 5338]), fore: staff(4687, [1571, 1197, 1384, 6071]) },
+///     Call::EndRun { number: 1 },
+///     Call::CloseLine { number: 2, height: 10_657 },
+///     Call::CloseSpur { number: 2 },
+/// ]);
+/// assert_eq!(outcome.numbers, [0, 0, 0, 0, 0, 0, 0, 41, 0]);
+/// let closing = outcome.closing.unwrap();
+/// assert_eq!((closing.closure, closing.length, closing.accidental), (0, 2_564, 195));
+/// assert_eq!((closing.points[1].correction, closing.points[1].height), (-1, 10_658));
 /// ```
 pub fn run_calls(calls: &[Call]) -> Outcome {
     let list: Vec<i64> = calls.iter().flat_map(Call::numbers).collect();
