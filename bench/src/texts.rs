@@ -1,6 +1,7 @@
 //! The texts that are timed, by name.
 use level_tests::examples::book;
 use level_tests::largest::{blank_lines, largest_book, refused_late, refused_stations};
+use level_tests::rules::Class;
 
 pub const NAMES: [&str; 6] = ["largest", "third", "late", "refusals", "blank", "case-a"];
 
@@ -18,9 +19,9 @@ pub fn said(name: &str) -> &'static str {
 
 pub fn named(name: &str) -> Vec<u8> {
     match name {
-        "largest" => largest_book(4),
-        "third" => largest_book(3),
-        "late" => refused_late(4),
+        "largest" => largest_book(Class::Fourth),
+        "third" => largest_book(Class::Third),
+        "late" => refused_late(Class::Fourth),
         "refusals" => refused_stations(),
         "blank" => blank_lines(),
         "case-a" => book("case-a"),

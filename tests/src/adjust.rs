@@ -3,7 +3,7 @@
 //! fractions. A section is the pair of its Q (quarter mm) and R (half dm).
 
 use crate::fraction::{narrow, round_even};
-use crate::plain::Closing;
+use crate::closing::Closing;
 use crate::rules;
 
 fn sum_of_q(sections: &[(i64, i64)]) -> i128 {
@@ -14,22 +14,29 @@ fn sum_of_r(sections: &[(i64, i64)]) -> i128 {
     sections.iter().map(|&(_, r)| i128::from(r)).sum()
 }
 
-/// W = 4 start + sum of Q - 4 end, in quarter mm.
-pub fn closure(start: i64, end: i64, sections: &[(i64, i64)]) -> i128 {
-    4 * i128::from(start) + sum_of_q(sections) - 4 * i128::from(end)
+/// W = 4 start + sum of Q - 4 end, in quarter mm; 0 on a spur, which has no known end
+/// (document 02, W-202).
+pub fn closure(start: i64, end: Option<i64>, sections: &[(i64, i64)]) -> i128 {
+    match end {
+        Some(end) => 4 * i128::from(start) + sum_of_q(sections) - 4 * i128::from(end),
+        None => 0,
+    }
 }
 
-/// The exact height after k sections as a fraction, denominator 4 L.
-pub fn exact_height(start: i64, end: i64, sections: &[(i64, i64)], k: usize) -> (i128, i128) {
+/// The exact height after k sections as a fraction; on a spur start plus running Q.
+pub fn exact_height(start: i64, end: Option<i64>, sections: &[(i64, i64)], k: usize) -> (i128, i128) {
+    let q_k = sum_of_q(&sections[..k]);
+    if end.is_none() {
+        return (4 * i128::from(start) + q_k, 4);
+    }
     let w = closure(start, end, sections);
     let l = sum_of_r(sections);
-    let q_k = sum_of_q(&sections[..k]);
     let s_k = sum_of_r(&sections[..k]);
     (4 * i128::from(start) * l + q_k * l - w * s_k, 4 * l)
 }
 
 /// The printed height of each section's end, in mm.
-pub fn heights(start: i64, end: i64, sections: &[(i64, i64)]) -> Vec<i64> {
+pub fn heights(start: i64, end: Option<i64>, sections: &[(i64, i64)]) -> Vec<i64> {
     (1..=sections.len())
         .map(|k| {
             let (n, d) = exact_height(start, end, sections, k);
@@ -66,7 +73,7 @@ pub fn adjust(start: i64, end: i64, sections: &[(i64, i64)], list: &mut [i64]) -
     if !rules::height_allowed(start) || !rules::height_allowed(end) {
         return Err(5);
     }
-    list[..sections.len()].copy_from_slice(&heights(start, end, sections));
+    list[..sections.len()].copy_from_slice(&heights(start, Some(end), sections));
     Ok(())
 }
 
@@ -79,10 +86,11 @@ fn section_allowed(section: &(i64, i64)) -> bool {
 
 /// Checks the promises of an adjustment: the corrections sum to -W, the last
 /// height is the end's, each height lies within half a mm of the exact one, each
-/// correction within 4 quarter mm of its exact share -W R / L.
+/// correction within 4 quarter mm of its exact share -W R / L. On a spur the first
+/// two are not promised, and the share is 0.
 pub fn keeps_promises(
     start: i64,
-    end: i64,
+    end: Option<i64>,
     sections: &[(i64, i64)],
     heights: &[i64],
     corrections: &[i64],
@@ -93,11 +101,11 @@ pub fn keeps_promises(
     let w = closure(start, end, sections);
     let l = sum_of_r(sections);
     let sum: i128 = corrections.iter().map(|&one| i128::from(one)).sum();
-    if sum != -w {
+    if end.is_some() && sum != -w {
         return Err(format!("corrections sum to {sum}, W is {w}"));
     }
-    if heights.last() != Some(&end) {
-        return Err(format!("last height {:?}, end height {end}", heights.last()));
+    if end.is_some() && heights.last() != end.as_ref() {
+        return Err(format!("last height {:?}, end height {end:?}", heights.last()));
     }
     for (k, &(_, r)) in sections.iter().enumerate() {
         let (n, d) = exact_height(start, end, sections, k + 1);
@@ -120,7 +128,7 @@ pub fn keeps_promises(
 /// with S and correction 0, each S the running sum of R, W and L as computed.
 pub fn closing_keeps_promises(
     start: i64,
-    end: i64,
+    end: Option<i64>,
     sections: &[(i64, i64)],
     closing: &Closing,
 ) -> Result<(), String> {

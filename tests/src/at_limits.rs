@@ -2,7 +2,7 @@
 //! figures that fall on a tie.
 
 use crate::caller::{Goal, Caller};
-use crate::rules;
+use crate::rules::{self, Class};
 
 /// The largest number from 0 on for which a rule still holds.
 fn largest(rule: impl Fn(i64) -> bool) -> i64 {
@@ -13,13 +13,9 @@ fn largest(rule: impl Fn(i64) -> bool) -> i64 {
     x
 }
 
-fn agrees(d: i64, r: i64) -> bool {
-    rules::double_run_agrees(d.into(), r.into())
-}
-
 impl Caller<'_> {
-    fn third(&self) -> bool {
-        self.opened().order == 3
+    fn agrees(&self, d: i64, r: i64) -> bool {
+        rules::double_run_agrees(self.class(), d.into(), r.into())
     }
 
     /// The sum of sights that a run of so many stations is to have.
@@ -30,7 +26,7 @@ impl Caller<'_> {
             return sum.clamp(4 * stations, most);
         }
         let usual = (2 * self.style.sight * stations).clamp(4 * stations, most);
-        let outward = self.third() && self.reading.waiting.is_none();
+        let outward = self.class().goes_both_ways() && self.reading.waiting.is_none();
         let plain = self.style.equal || self.random.chance(1, 3);
         if outward || (plain && !self.style.verdict) {
             return usual;
@@ -52,19 +48,19 @@ impl Caller<'_> {
     }
 
     /// A sum near the usual one for which a root limit is met exactly: 25 W^2 =
-    /// 8 L where L = 50 k^2, 625 D^2 = 18 R and 625 W^2 = 72 L where R or L is
-    /// 1,250 k^2; or for which t falls on ties, where R is 64 k^2 times a power
-    /// of 5. One off now and then.
+    /// 8 L and on a spur 25 D^2 = 2 R where L or R is 50 k^2, 625 D^2 = 18 R and
+    /// 625 W^2 = 72 L where R or L is 1,250 k^2; or for which t falls on ties, where
+    /// R is 64 k^2 times a power of 5. One off now and then.
     fn sum_to_square(&mut self, usual: i64, (least, most): (i64, i64)) -> i64 {
         let (_, done) = self.line_sums();
         let (_, outward) = self.waiting_sums();
         let power = self.random.below(4) as u32;
-        let (before, each, unit) = match self.random.below(6) {
-            _ if !self.third() => (done, 2, 50),
-            _ if self.style.verdict => (outward, 1, 1_250),
-            0..=2 => (done + outward, 1, 1_250),
-            3 => (outward, 1, 64 * 5_i64.pow(power)),
-            _ => (outward, 1, 1_250),
+        let (before, each, unit) = match (self.class(), self.random.below(6)) {
+            (Class::Fourth, _) => (done, 2, 50),
+            (_, 3) if !self.style.verdict => (outward, 1, 64 * 5_i64.pow(power)),
+            (Class::Spur, _) => (outward, 1, 50),
+            (Class::Third, 0..=2) if !self.style.verdict => (done + outward, 1, 1_250),
+            (Class::Third, _) => (outward, 1, 1_250),
         };
         let off = if self.style.verdict { 0 } else { *self.random.pick(&[0, 0, 0, -each, each]) };
         let k = ((before + each * usual) / unit).isqrt();
@@ -75,10 +71,12 @@ impl Caller<'_> {
     /// D of a return for this R: at, beside and beyond its limit, on a tie of t,
     /// at the verdict's limit, or anything within.
     fn wished_d(&mut self, r: i64) -> i64 {
-        let limit = largest(|d| agrees(d, r));
-        let mean = largest(|d| rules::square_per_km(d.into(), r.into()) <= 3_600);
+        let Some(set) = self.class().terms().both_ways else { return 0 };
+        let limit = largest(|d| self.agrees(d, r));
+        let mean = largest(|d| rules::square_per_km(d.into(), r.into()) <= set.accidental);
         let d = match self.random.below(12) {
             0 if self.style.verdict => mean + 1,
+            1 if self.style.verdict => (mean - 1).max(0),
             _ if self.style.verdict => mean,
             0 | 1 => limit,
             2 => limit + 1,
@@ -102,10 +100,12 @@ impl Caller<'_> {
         }
     }
 
-    /// W for this L: at, beside and beyond its limit, or anything within.
+    /// W for this L: at, beside and beyond its limit, or anything within; not for a spur,
+    /// whose W has no limit.
     pub fn wished_w(&mut self, l: i64) -> i64 {
-        let order = self.opened().order;
-        let limit = largest(|w| rules::closure_allowed(order, w.into(), l.into()));
+        let class = self.class();
+        assert!(class != Class::Spur, "a spur has no W");
+        let limit = largest(|w| rules::closure_allowed(class, w.into(), l.into()));
         let w = match self.random.below(10) {
             0..=3 => limit,
             4 => limit + 1,
@@ -141,7 +141,7 @@ impl Caller<'_> {
         let mut d = self.wished_d(r);
         if shuts_loop {
             let for_w = q + 2 * heights - self.wished_w(l + r);
-            if agrees(for_w, r) {
+            if self.agrees(for_w, r) {
                 d = for_w;
             }
         }

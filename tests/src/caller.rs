@@ -5,16 +5,16 @@ use crate::fraction::narrow;
 use crate::opening::usual;
 use crate::plain::{Answer, Call, Opened, Reading};
 use crate::random::Random;
-use crate::rules;
+use crate::rules::{self, Class};
 use crate::wished::{faces, other_staff, station_of, Wish, CONSTANTS, STEEPEST};
 use crate::station::{accumulated_d, sum_of_heights, sum_of_sights};
 
-/// How a line is levelled: order and instrument, usual sight (dm), usual height
+/// How a line is levelled: class and instrument, usual sight (dm), usual height
 /// of a station (half mm), whether all sights are the same, whether D is set for
 /// a verdict at its limit, and one call in how many goes wrong (0: none).
 #[derive(Clone, Debug)]
 pub struct Style {
-    pub order: i64,
+    pub class: Class,
     pub instrument: i64,
     pub sight: i64,
     pub relief: i64,
@@ -66,8 +66,13 @@ impl<'r> Caller<'r> {
     }
 
     pub fn opened(&self) -> Opened {
-        let Style { order, instrument, .. } = self.style;
-        self.reading.opened.unwrap_or(Opened { instrument, height: 0, ..usual(order) })
+        let Style { class, instrument, .. } = self.style;
+        self.reading.opened.unwrap_or(Opened { instrument, height: 0, ..usual(class.order()) })
+    }
+
+    /// What was opened, which another call than the style's may have done.
+    pub fn class(&self) -> Class {
+        self.reading.class.unwrap_or(self.style.class)
     }
 
     pub fn table(&self) -> Table {

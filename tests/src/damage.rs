@@ -37,7 +37,10 @@ const FIELDS: [&[u8; FIELD]; 24] = [
 const BYTES: [u8; 14] = *b" \n\r\t-+0159AZ\0\xff";
 
 /// Lines to be put in between.
-const WORDS: [&str; 6] = ["", "LEVEL BOOK", "PNT", "LIN", "DRR", "DRS"];
+const WORDS: [&str; 8] = ["", "LEVEL BOOK", "PNT", "LIN", "SPR", "FIN", "DRR", "DRS"];
+
+/// Tags to be written over others.
+const TAGS: [&[u8; TAG]; 8] = [b"LIN", b"STA", b"RUN", b"DRR", b"DRS", b"END", b"SPR", b"FIN"];
 
 /// A text book with a random list of calls, one in two damaged.
 pub fn text_book(random: &mut Random) -> Vec<u8> {
@@ -65,11 +68,11 @@ pub fn damage(random: &mut Random, text: &mut Vec<u8>) {
     }
     let first = u64::from(!random.chance(1, 30));
     let line = LINE * (first + random.below(lines - first)) as usize;
-    match random.below(14) {
+    match random.below(15) {
         0 | 1 => set(text, line + random.below(LINE as u64) as usize, *random.pick(&BYTES)),
         2..=5 => set_field(random, text, line),
         6 => set(text, line + COLUMNS, *random.pick(&BYTES)),
-        7 => set(text, line + random.below(TAG as u64) as usize, *random.pick(b"SlLTEeR N")),
+        7 => set(text, line + random.below(TAG as u64) as usize, *random.pick(b"SlLTEeR NPFI")),
         8 => set(text, line + random.between(70, 82) as usize, *random.pick(&BYTES)),
         9 => {
             let words: &str = random.pick::<&str>(&WORDS);
@@ -78,6 +81,7 @@ pub fn damage(random: &mut Random, text: &mut Vec<u8>) {
         10 => bad_field_and_more(random, text, line),
         11 => change_length(random, text),
         12 => insert(text, line, &rubbish(random, 100)),
+        13 => text[line..line + TAG].copy_from_slice(*random.pick(&TAGS)),
         _ => {
             let byte = line + random.below(LINE as u64) as usize;
             text.remove(byte);

@@ -1,28 +1,29 @@
-//! Lists of calls that are worth comparing: lines of both orders and both
-//! instruments that reach the limits of document 01, and changed lists.
+//! Lists of calls that are worth comparing: lines of both orders and spurs, with both
+//! instruments, that reach the limits of documents 01 and 02, and changed lists.
 
 use crate::mutate::mutate;
 use crate::caller::{Caller, Style};
 use crate::plain::Call;
 use crate::random::Random;
-use crate::rules::{limits, longest_line, SECTIONS_OF_A_LINE, STATIONS_OF_A_RUN};
+use crate::rules::{limits, longest_line, Class, SECTIONS_OF_A_LINE, STATIONS_OF_A_RUN};
 
 /// What a line is to show.
 #[derive(Clone, Copy, Debug, PartialEq, Eq)]
 pub enum Kind {
     /// One to six sections.
     Usual,
-    /// A loop of two to six sections.
+    /// A loop of two to six sections; a spur that tries to be one.
     Loop,
-    /// About 20 sections of third order with T about 3,600 n.
+    /// About 20 sections out and back with T about its limit.
     Verdict,
     /// About as many sections as a line may have, and some above.
     Many,
-    /// A length at or beyond its limit, runs of 200 stations.
+    /// A length at or beyond its limit, for a spur up to 500 km, runs of 200 stations.
     Long,
     /// Heights below -9,999,999 mm (some thousand calls).
     Deep,
-    /// A W whose square times 625 passes 64 bits (some ten thousand calls).
+    /// A W whose square times 625 passes 64 bits, a spur up or down as far (some ten
+    /// thousand calls).
     Steep,
 }
 
@@ -74,13 +75,13 @@ pub fn line(random: &mut Random, kind: Kind) -> Vec<Call> {
 }
 
 fn style(random: &mut Random, kind: Kind) -> Style {
-    let order = match kind {
-        Kind::Verdict | Kind::Steep => 3,
-        Kind::Deep => 4,
-        _ => random.between(3, 4),
-    };
+    let class = *random.pick(match kind {
+        Kind::Verdict | Kind::Steep => &[Class::Third, Class::Spur],
+        Kind::Deep => &[Class::Fourth, Class::Spur],
+        _ => &Class::ALL[..],
+    });
     let instrument = *random.pick(&[3, 1]);
-    let most = limits(order, instrument).sight as i64;
+    let most = limits(class.order(), instrument).sight as i64;
     let sight = match (kind, random.below(4)) {
         (Kind::Long, _) => most - 10,
         (Kind::Deep | Kind::Steep, _) => 12,
@@ -96,7 +97,7 @@ fn style(random: &mut Random, kind: Kind) -> Style {
         _ => *random.pick(&[0, 0, 4, 8, 8, 16, 16, 40]),
     };
     Style {
-        order,
+        class,
         instrument,
         sight,
         relief: *random.pick(&[0, 10, 100, 400, 1_500]),
@@ -119,15 +120,16 @@ fn stations(caller: &mut Caller, usual: i64) -> usize {
     2 * count as usize
 }
 
-/// One to six sections; a loop comes back to the start number.
+/// One to six sections; a loop comes back to the start number, which is refused on a spur.
 fn usual_line(caller: &mut Caller, is_loop: bool) {
     let sections = caller.random.between(if is_loop { 2 } else { 1 }, 6);
     let usual = caller.random.between(1, 4);
     for k in 1..=sections {
-        let shuts = is_loop && k == sections;
+        let back = is_loop && k == sections;
+        let shuts = back && caller.class().may_be_loop();
         let mut count = stations(caller, usual);
         let mut number = caller.new_number();
-        if shuts && !caller.reading.sections.is_empty() {
+        if back && !caller.reading.sections.is_empty() {
             number = caller.opened().start;
             count = caller.stations_to_shut(count);
         }
@@ -145,7 +147,7 @@ fn usual_line(caller: &mut Caller, is_loop: bool) {
 /// Many sections of two stations, one in six lines a loop.
 fn line_of_short_sections(caller: &mut Caller, fewest: i64, most: i64) {
     let sections = caller.random.between(fewest, most);
-    let is_loop = caller.random.chance(1, 6);
+    let is_loop = caller.random.chance(1, 6) && caller.class().may_be_loop();
     for k in 1..=sections {
         let last = k == sections.min(SECTIONS_OF_A_LINE as i64);
         if is_loop && last {
@@ -160,14 +162,18 @@ fn line_of_short_sections(caller: &mut Caller, fewest: i64, most: i64) {
     }
 }
 
-/// Sections of 200 stations up to a length at, inside or beyond the limit.
+/// Sections of 200 stations up to a length at, inside or beyond the limit; a spur to a
+/// line's limits and, as it has none, far beyond.
 fn long_line(caller: &mut Caller) {
-    let is_loop = caller.random.chance(1, 2);
-    let longest = longest_line(caller.opened().order, is_loop) as i64;
+    let is_loop = caller.random.chance(1, 2) && caller.class().may_be_loop();
+    let longest = match longest_line(caller.class(), is_loop) {
+        Some(longest) => longest as i64,
+        None => 20_000 * *caller.random.pick(&[80, 80, 100, 150, 200, 500]),
+    };
     let off = *caller.random.pick(&[0, 0, 0, 2, 2, 1, -1, -2, 40_000, -40_000]);
     caller.style.relief = caller.style.relief.min(10);
     let one_station = 4 * caller.table().sight;
-    for _ in 0..12 {
+    for _ in 0..16 {
         let (_, done) = caller.line_sums();
         let rest = longest + off - done;
         let fits = rest <= one_station * STATIONS_OF_A_RUN as i64;
@@ -184,11 +190,12 @@ fn long_line(caller: &mut Caller) {
     caller.length = None;
 }
 
-/// Down below -9,999,999 mm and up again.
+/// Down below -9,999,999 mm, a line up again to an end height in range.
 fn deep_line(caller: &mut Caller) {
     let sections = caller.random.between(18, 31);
+    let up_again = if caller.class() == Class::Spur { 0 } else { sections };
     let steep = 5_900 * STATIONS_OF_A_RUN as i64;
-    for k in 0..2 * sections {
+    for k in 0..sections + up_again {
         caller.climb = Some(if k < sections { -steep } else { steep });
         let number = caller.new_number();
         caller.section(number, STATIONS_OF_A_RUN, false);

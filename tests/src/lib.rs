@@ -1,12 +1,16 @@
-//! Another implementation of the levelling book, written from document 01 alone; the tests compare the proved one with it.
+//! Another implementation of the levelling book, written from documents 01 and 02 alone; the tests compare the proved one with it.
 //!
-//! The other implementation: `fraction`, `station`, `rules`, `plain`, `standing`, `adjust`, and for texts `text`, `write`, `report`. Inputs for comparisons:
-//! `random`, `lent`, `examples`, `opening`, for lists of calls `wished`, `caller`, `at_limits`, `mistakes`, `work`, `generate`, `mutate`, and for texts `damage`, `largest`.
+//! The other implementation: `fraction`, `station`, `rules`, `plain`, `standing`, `closing`, `adjust`, `figures`, and for texts `text`, `write`, `report`.
+//! Inputs for comparisons: `random`, `lent`, `examples`, `opening`, `fixed`, for lists of calls `wished`, `caller`, `at_limits`, `mistakes`, `work`,
+//! `generate`, `mutate`, and for texts `damage`, `largest`.
 
 pub mod adjust;
 pub mod at_limits;
+pub mod closing;
 pub mod damage;
 pub mod examples;
+pub mod figures;
+pub mod fixed;
 pub mod fraction;
 pub mod generate;
 pub mod largest;

@@ -2,9 +2,10 @@
 //! closings that are not due, calls out of place.
 
 use crate::mutate::any_call;
-use crate::opening::usual;
+use crate::opening::{opening_call, usual};
 use crate::caller::{Goal, Caller};
 use crate::plain::{Call, Opened};
+use crate::rules::Class;
 use crate::wished::{other_staff, station_of, Wish};
 use crate::station::{BLACK, LOWER, RED, UPPER};
 
@@ -20,7 +21,7 @@ impl Caller<'_> {
             0..=3 => Call::EndRun(self.doubtful_number()),
             4 => Call::DropRun,
             5 => Call::DropSection,
-            6 => Call::Open(self.opening_values()),
+            6 => self.doubtful_opening(),
             7..=9 => self.doubtful_closing(),
             10..=11 => any_call(self.random),
             12..=29 => self.station_at_a_limit(goal),
@@ -60,8 +61,22 @@ impl Caller<'_> {
         }
     }
 
+    /// Of a line or of a spur, one in three the other than what is open.
     pub fn doubtful_closing(&mut self) -> Call {
-        Call::CloseLine { number: self.doubtful_number(), height: self.doubtful_height() }
+        let number = self.doubtful_number();
+        let other = self.random.chance(1, 3);
+        if (self.class() == Class::Spur) != other {
+            Call::CloseSpur(number)
+        } else {
+            Call::CloseLine { number, height: self.doubtful_height() }
+        }
+    }
+
+    /// An opening, one in three of any class.
+    pub fn doubtful_opening(&mut self) -> Call {
+        let any = *self.random.pick(&Class::ALL);
+        let class = if self.random.chance(1, 3) { any } else { self.style.class };
+        opening_call(class, self.opening_values())
     }
 
     /// What the line may be opened with: its order, numbers and heights at their limits
@@ -78,7 +93,7 @@ impl Caller<'_> {
             2..=4 => self.random.between(-3_000, 3_000),
             _ => self.random.between(-100_000, 5_000_000),
         };
-        Opened { instrument: self.style.instrument, start, height, ..usual(self.style.order) }
+        Opened { instrument: self.style.instrument, start, height, ..usual(self.style.class.order()) }
     }
 
     /// A station with one of its figures at its limit.

@@ -1,5 +1,5 @@
 //! Random changes of a list of calls: arguments at range limits, extreme values,
-//! calls lost, doubled or out of place.
+//! calls lost, doubled or out of place, a line's calls for a spur's.
 
 use crate::opening::usual;
 use crate::plain::{Call, Opened};
@@ -49,13 +49,16 @@ const ODD_VALUES: [i64; 36] = [
 /// The arguments of a call, to be changed in place.
 pub fn arguments(call: &mut Call) -> Vec<&mut i64> {
     match call {
-        Call::Open(Opened { order, instrument, start, height }) => vec![order, instrument, start, height],
+        Call::Open(opened) | Call::OpenSpur(opened) => {
+            let Opened { order, instrument, start, height } = opened;
+            vec![order, instrument, start, height]
+        }
         Call::Station { back_k, fore_k, readings } => {
             let mut all = vec![back_k, fore_k];
             all.extend(readings.iter_mut().flatten());
             all
         }
-        Call::EndRun(number) => vec![number],
+        Call::EndRun(number) | Call::CloseSpur(number) => vec![number],
         Call::DropRun | Call::DropSection => vec![],
         Call::CloseLine { number, height } => vec![number, height],
     }
@@ -75,7 +78,7 @@ pub fn any_call(random: &mut Random) -> Call {
     let k = *random.pick(&CONSTANTS);
     let m = random.between(1, 2_999);
     let staff = [m + 1, m - 1, m, m + k];
-    let mut call = match random.below(6) {
+    let mut call = match random.below(8) {
         0 => Call::Open(Opened { height: 0, ..usual(3) }),
         1 => Call::Station {
             back_k: k,
@@ -85,6 +88,8 @@ pub fn any_call(random: &mut Random) -> Call {
         2 => Call::EndRun(1),
         3 => Call::DropRun,
         4 => Call::DropSection,
+        5 => Call::OpenSpur(Opened { height: 0, ..usual(4) }),
+        6 => Call::CloseSpur(1),
         _ => Call::CloseLine { number: 1, height: 0 },
     };
     for argument in arguments(&mut call) {
@@ -104,6 +109,28 @@ fn change_argument(random: &mut Random, call: &mut Call) {
     }
 }
 
+/// The call of a spur for a line's opening or closing, and the other way round.
+fn counterpart(call: &Call) -> Option<Call> {
+    match *call {
+        Call::Open(opened) => Some(Call::OpenSpur(opened)),
+        Call::OpenSpur(opened) => Some(Call::Open(opened)),
+        Call::CloseLine { number, .. } => Some(Call::CloseSpur(number)),
+        Call::CloseSpur(number) => Some(Call::CloseLine { number, height: 0 }),
+        _ => None,
+    }
+}
+
+/// Puts one counterpart into a list, if there is any.
+fn change_class(random: &mut Random, calls: &mut [Call]) {
+    let others = calls.iter_mut().filter_map(|call| Some((counterpart(call)?, call)));
+    let mut others: Vec<(Call, &mut Call)> = others.collect();
+    if !others.is_empty() {
+        let which = random.below(others.len() as u64) as usize;
+        let (other, call) = others.swap_remove(which);
+        *call = other;
+    }
+}
+
 /// Makes up to `most` changes in a list of calls.
 pub fn mutate(random: &mut Random, calls: &mut Vec<Call>, most: u64) {
     for _ in 0..=random.below(most) {
@@ -113,7 +140,7 @@ pub fn mutate(random: &mut Random, calls: &mut Vec<Call>, most: u64) {
         let count = calls.len() as u64;
         let here = random.below(count) as usize;
         let there = random.below(count) as usize;
-        match random.below(12) {
+        match random.below(13) {
             0..=5 => change_argument(random, &mut calls[here]),
             6 => calls.insert(here, any_call(random)),
             7 => {
@@ -122,6 +149,7 @@ pub fn mutate(random: &mut Random, calls: &mut Vec<Call>, most: u64) {
             8 => calls.insert(here, calls[there].clone()),
             9 => calls.swap(here, there),
             10 => calls.insert(here, calls[here].clone()),
+            11 => change_class(random, calls),
             _ if random.chance(1, 8) => calls.truncate(here + 1),
             _ => change_argument(random, &mut calls[there]),
         }

@@ -1,7 +1,9 @@
 //! The plain reading of a list of calls (document 01, "Runs, sections and the
-//! standing list"): lists of stations, and every rule read over these lists.
+//! standing list"): lists of stations, and every rule read over these lists. The
+//! closing calls are in `closing`.
 
-use crate::rules;
+use crate::closing::Closing;
+use crate::rules::{self, Class};
 use crate::station::{accumulated_d, sum_of_heights, sum_of_sights, Station, BACK, FORE};
 
 /// The calls on a book; any argument may be any number of 64 bits.
@@ -14,6 +16,8 @@ pub enum Call {
     DropRun,
     DropSection,
     CloseLine { number: i64, height: i64 },
+    OpenSpur(Opened),
+    CloseSpur(i64),
 }
 
 #[derive(Clone, Debug, PartialEq, Eq)]
@@ -21,27 +25,6 @@ pub enum Answer {
     Refused(u8),
     Taken,
     Closed(Closing),
-}
-
-/// What closing gives, and the points that the report prints, start first.
-#[derive(Clone, Debug, PartialEq, Eq)]
-pub struct Closing {
-    pub w: i64,
-    pub l: i64,
-    pub n: i64,
-    pub t: i64,
-    pub verdict: i64,
-    pub points: Vec<Point>,
-}
-
-/// A benchmark of the closed line: distance S in half dm from the start,
-/// correction in quarter mm, height in mm.
-#[derive(Clone, Debug, PartialEq, Eq)]
-pub struct Point {
-    pub number: i64,
-    pub distance: i64,
-    pub correction: i64,
-    pub height: i64,
 }
 
 #[derive(Clone, Copy, Debug, PartialEq, Eq)]
@@ -59,8 +42,8 @@ pub struct Opened {
     pub height: i64,
 }
 
-/// A finished section: its number, its outward run and, at third order, its
-/// return run.
+/// A finished section: its number, its outward run and, at third order and on a
+/// spur, its return run.
 #[derive(Clone, Debug, PartialEq, Eq)]
 pub struct Section {
     pub number: i64,
@@ -99,10 +82,11 @@ pub struct Waiting {
     pub outward: Vec<Station>,
 }
 
-/// What the plain reading keeps.
+/// What the plain reading keeps; a spur is closed without an end height.
 #[derive(Clone, Debug, PartialEq, Eq)]
 pub struct Reading {
     pub stage: Stage,
+    pub class: Option<Class>,
     pub opened: Option<Opened>,
     pub end_height: Option<i64>,
     pub sections: Vec<Section>,
@@ -117,9 +101,9 @@ impl Default for Reading {
 }
 
 /// A call's own result before it becomes an answer: the refusal is the number.
-type Outcome = Result<(), u8>;
+pub(crate) type Outcome = Result<(), u8>;
 
-fn refuse_if(condition: bool, number: u8) -> Outcome {
+pub(crate) fn refuse_if(condition: bool, number: u8) -> Outcome {
     if condition {
         Err(number)
     } else {
@@ -131,6 +115,7 @@ impl Reading {
     pub fn fresh() -> Reading {
         Reading {
             stage: Stage::Fresh,
+            class: None,
             opened: None,
             end_height: None,
             sections: Vec::new(),
@@ -141,33 +126,35 @@ impl Reading {
 
     /// Takes or refuses one call; a refused call changes nothing.
     pub fn apply(&mut self, call: &Call) -> Answer {
-        let outcome = match *call {
-            Call::Open(opened) => self.open(opened),
-            Call::Station { back_k, fore_k, readings } => {
-                self.station(Station { back_k, fore_k, readings })
-            }
-            Call::EndRun(number) => self.end_run(number),
-            Call::DropRun => self.drop_run(),
-            Call::DropSection => self.drop_section(),
-            Call::CloseLine { number, height } => {
-                return match self.close_line(number, height) {
-                    Ok(closing) => Answer::Closed(closing),
-                    Err(refusal) => Answer::Refused(refusal),
-                };
-            }
-        };
-        match outcome {
-            Ok(()) => Answer::Taken,
-            Err(refusal) => Answer::Refused(refusal),
-        }
+        self.take(call).unwrap_or_else(Answer::Refused)
     }
 
-    fn open(&mut self, opened: Opened) -> Outcome {
-        refuse_if(!rules::order_allowed(opened.order, opened.instrument), 3)?;
+    fn take(&mut self, call: &Call) -> Result<Answer, u8> {
+        match *call {
+            Call::Open(opened) => self.open(Class::of_line(opened.order), opened)?,
+            Call::OpenSpur(opened) => self.open(Class::of_spur(opened.order), opened)?,
+            Call::Station { back_k, fore_k, readings } => {
+                self.station(Station { back_k, fore_k, readings })?
+            }
+            Call::EndRun(number) => self.end_run(number)?,
+            Call::DropRun => self.drop_run()?,
+            Call::DropSection => self.drop_section()?,
+            Call::CloseLine { number, height } => {
+                return self.close_line(number, height).map(Answer::Closed)
+            }
+            Call::CloseSpur(number) => return self.close_spur(number).map(Answer::Closed),
+        }
+        Ok(Answer::Taken)
+    }
+
+    /// The class is none where the order does not fit the call.
+    fn open(&mut self, class: Option<Class>, opened: Opened) -> Outcome {
+        refuse_if(class.is_none() || !rules::instrument_allowed(opened.instrument), 3)?;
         refuse_if(!rules::number_allowed(opened.start), 4)?;
         refuse_if(!rules::height_allowed(opened.height), 5)?;
         refuse_if(self.stage != Stage::Fresh, 21)?;
         self.stage = Stage::Open;
+        self.class = class;
         self.opened = Some(opened);
         Ok(())
     }
@@ -176,7 +163,7 @@ impl Reading {
         refuse_if(!station.readings_in_range(), 6)?;
         refuse_if(!station.constants_fit(), 7)?;
         refuse_if(!station.threads_ordered(), 8)?;
-        let opened = self.open_line()?;
+        let (_, opened) = self.open_line()?;
         refuse_if(self.loop_is_shut(), 21)?;
         refuse_if(self.run.len() >= rules::STATIONS_OF_A_RUN, 22)?;
         refuse_if(!self.in_turn(station.back_k), 23)?;
@@ -193,22 +180,22 @@ impl Reading {
 
     fn end_run(&mut self, number: i64) -> Outcome {
         refuse_if(!rules::number_allowed(number), 4)?;
-        let opened = self.open_line()?;
+        let (class, opened) = self.open_line()?;
         refuse_if(self.loop_is_shut(), 21)?;
         refuse_if(self.run.is_empty() || self.run.len() % 2 == 1, 29)?;
         if self.waiting.is_none() {
-            self.end_outward(number, opened)
+            self.end_outward(number, class, opened)
         } else {
-            self.end_return(number, opened)
+            self.end_return(number, class, opened)
         }
     }
 
-    /// At fourth order an ended run is a section, at third order it waits.
-    fn end_outward(&mut self, number: i64, opened: Opened) -> Outcome {
+    /// Where sections go out and back an ended outward run waits, elsewhere it is a section.
+    fn end_outward(&mut self, number: i64, class: Class, opened: Opened) -> Outcome {
         refuse_if(self.sections.len() >= rules::SECTIONS_OF_A_LINE, 31)?;
-        refuse_if(!self.may_end_outward_on(number, opened.start), 30)?;
+        refuse_if(!self.may_end_outward_on(number, class, opened.start), 30)?;
         let outward = std::mem::take(&mut self.run);
-        if opened.order == 3 {
+        if class.goes_both_ways() {
             self.waiting = Some(Waiting { number, outward });
         } else {
             self.sections.push(Section { number, outward, homeward: None });
@@ -217,7 +204,7 @@ impl Reading {
     }
 
     /// The return finishes the section under the waiting number.
-    fn end_return(&mut self, number: i64, opened: Opened) -> Outcome {
+    fn end_return(&mut self, number: i64, class: Class, opened: Opened) -> Outcome {
         refuse_if(number != self.section_begin(opened.start), 30)?;
         let waiting = self.waiting.as_ref().expect("a waiting run");
         let section = Section {
@@ -226,7 +213,7 @@ impl Reading {
             homeward: Some(self.run.clone()),
         };
         let d = section.d().expect("a return");
-        refuse_if(!rules::double_run_agrees(d, section.r()), 32)?;
+        refuse_if(!rules::double_run_agrees(class, d, section.r()), 32)?;
         self.sections.push(section);
         self.waiting = None;
         self.run.clear();
@@ -244,22 +231,5 @@ impl Reading {
         self.run.clear();
         self.waiting = None;
         Ok(())
-    }
-
-    fn close_line(&mut self, number: i64, height: i64) -> Result<Closing, u8> {
-        refuse_if(!rules::number_allowed(number), 4)?;
-        refuse_if(!rules::height_allowed(height), 5)?;
-        let opened = self.open_line()?;
-        refuse_if(!self.run.is_empty() || self.waiting.is_some(), 33)?;
-        let last = self.sections.last().ok_or(33)?;
-        let is_loop = self.loop_is_shut();
-        refuse_if(number != last.number || (is_loop && height != opened.height), 34)?;
-        let closing = self.closing(opened, height);
-        let (w, l) = (i128::from(closing.w), i128::from(closing.l));
-        refuse_if(l > rules::longest_line(opened.order, is_loop), 35)?;
-        refuse_if(!rules::closure_allowed(opened.order, w, l), 36)?;
-        self.stage = Stage::Closed;
-        self.end_height = Some(height);
-        Ok(closing)
     }
 }

@@ -1,11 +1,15 @@
-//! The report (document 01, "The text book and the report").
+//! The report (document 01, "The text book and the report"; document 02, W-202).
 
-use crate::plain::{Answer, Closing, Point, Reading};
+use crate::closing::{Closing, Point};
+use crate::plain::{Answer, Reading};
 use crate::text;
 use crate::write::{field, filled, line};
 
 /// A height below this one takes sixteen columns in place of eight.
 const LOWEST_IN_EIGHT: i64 = -9_999_999;
+
+/// CLO prints a larger T as this one.
+const LARGEST_T: i64 = 99_999_999;
 
 /// The report of a text book, or 9 for a text that is too long.
 pub fn reduce(text: &[u8]) -> Result<Vec<u8>, u8> {
@@ -59,7 +63,7 @@ pub fn report(refusals: &[(i64, u8)], sections: usize, closing: Option<&Closing>
         None => report.extend(line_of("OPN", &[sections as i64])),
         Some(closing) => {
             let Closing { w, l, n, t, verdict, points } = closing;
-            report.extend(line_of("CLO", &[*w, *l, *n, *t, *verdict]));
+            report.extend(line_of("CLO", &[*w, *l, *n, LARGEST_T.min(*t), *verdict]));
             for point in points {
                 report.extend(point_line(point));
             }

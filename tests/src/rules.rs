@@ -1,4 +1,4 @@
-//! The limits of document 01, and what is computed for a line from its sums.
+//! The limits of documents 01 and 02, and what is computed for a line from its sums.
 
 use crate::fraction::{round_even, within};
 
@@ -34,10 +34,91 @@ pub fn limits(order: i64, instrument: i64) -> Limits {
     }
 }
 
-/// Order 3 or 4, instrument 3 or 1 (document 01, "Runs, sections and the
-/// standing list").
-pub fn order_allowed(order: i64, instrument: i64) -> bool {
-    (order == 3 || order == 4) && (instrument == 3 || instrument == 1)
+/// What is levelled: a line of third or fourth order, or a spur (document 02, W-202).
+#[derive(Clone, Copy, Debug, PartialEq, Eq)]
+pub enum Class {
+    Third,
+    Fourth,
+    Spur,
+}
+
+/// Sections out and back: D (half mm) keeps a D^2 <= b R with these a and b, R in half dm;
+/// T's limit for each section in hundredths of mm^2 per km.
+#[derive(Clone, Debug, PartialEq, Eq)]
+pub struct BothWays {
+    pub agree: (i128, i128),
+    pub accidental: i128,
+}
+
+/// A closing on a known height: W (quarter mm) keeps a W^2 <= b L with these a and b, L in half
+/// dm; the longest line and the longest loop in km.
+#[derive(Clone, Debug, PartialEq, Eq)]
+pub struct KnownEnd {
+    pub closure: (i128, i128),
+    pub line: i128,
+    pub whole_loop: i128,
+}
+
+/// What a class sets.
+#[derive(Clone, Debug, PartialEq, Eq)]
+pub struct Terms {
+    pub order: i64,
+    pub both_ways: Option<BothWays>,
+    pub known_end: Option<KnownEnd>,
+}
+
+impl Class {
+    pub const ALL: [Class; 3] = [Class::Third, Class::Fourth, Class::Spur];
+
+    /// What LIN opens with this order.
+    pub fn of_line(order: i64) -> Option<Class> {
+        [Class::Third, Class::Fourth].into_iter().find(|one| one.order() == order)
+    }
+
+    /// What SPR opens with this order.
+    pub fn of_spur(order: i64) -> Option<Class> {
+        (order == Class::Spur.order()).then_some(Class::Spur)
+    }
+
+    /// 12 root km at third order, 20 root km at fourth, for W and for D alike.
+    pub fn terms(self) -> Terms {
+        match self {
+            Class::Third => Terms {
+                order: 3,
+                both_ways: Some(BothWays { agree: (625, 18), accidental: 3_600 }),
+                known_end: Some(KnownEnd { closure: (625, 72), line: 150, whole_loop: 200 }),
+            },
+            Class::Fourth => Terms {
+                order: 4,
+                both_ways: None,
+                known_end: Some(KnownEnd { closure: (25, 8), line: 80, whole_loop: 100 }),
+            },
+            Class::Spur => Terms {
+                order: 4,
+                both_ways: Some(BothWays { agree: (25, 2), accidental: 10_000 }),
+                known_end: None,
+            },
+        }
+    }
+
+    pub fn order(self) -> i64 {
+        self.terms().order
+    }
+
+    /// Whether a section is an outward run and its return.
+    pub fn goes_both_ways(self) -> bool {
+        self.terms().both_ways.is_some()
+    }
+
+    /// Whether a line may come back to its start number; a spur may not.
+    pub fn may_be_loop(self) -> bool {
+        self.terms().known_end.is_some()
+    }
+}
+
+/// Instrument 3 for DS3, 1 for DS1 and DS05.
+pub fn instrument_allowed(instrument: i64) -> bool {
+    instrument == 3 || instrument == 1
 }
 
 /// Benchmark numbers are 1 to 9,999.
@@ -50,45 +131,34 @@ pub fn height_allowed(height: i64) -> bool {
     (-999_999..=8_999_999).contains(&height)
 }
 
-/// D (half mm) is within 12 root km for R (half dm): 625 D^2 <= 18 R.
-pub fn double_run_agrees(d: i128, r: i128) -> bool {
-    within(625, d, 18, r)
+/// Whether out and back agree; without a return nothing can disagree.
+pub fn double_run_agrees(class: Class, d: i128, r: i128) -> bool {
+    class.terms().both_ways.is_none_or(|set| within(set.agree.0, d, set.agree.1, r))
 }
 
-/// W (quarter mm) is within its limit for L (half dm); third order 12 root km,
-/// fourth 20 root km (document 01, "Closure, corrections, heights").
-pub fn closure_allowed(order: i64, w: i128, l: i128) -> bool {
-    if order == 3 {
-        within(625, w, 72, l)
-    } else {
-        within(25, w, 8, l)
-    }
+/// Whether W is within its limit; a spur has none.
+pub fn closure_allowed(class: Class, w: i128, l: i128) -> bool {
+    class.terms().known_end.is_none_or(|set| within(set.closure.0, w, set.closure.1, l))
 }
 
-/// The longest line in half dm, 20,000 of them to the km.
-pub fn longest_line(order: i64, is_loop: bool) -> i128 {
-    let km = match (order, is_loop) {
-        (3, false) => 150,
-        (3, true) => 200,
-        (_, false) => 80,
-        (_, true) => 100,
-    };
-    km * 20_000
+/// The longest line in half dm, 20,000 of them to the km; a spur has no longest.
+pub fn longest_line(class: Class, is_loop: bool) -> Option<i128> {
+    let set = class.terms().known_end?;
+    Some(20_000 * if is_loop { set.whole_loop } else { set.line })
 }
 
-/// t of a third order section: 500,000 D^2 / R, rounded, in hundredths of mm^2
+/// t of a section out and back: 500,000 D^2 / R, rounded, in hundredths of mm^2
 /// per km.
 pub fn square_per_km(d: i128, r: i128) -> i128 {
     round_even(500_000 * d * d, r)
 }
 
-/// 0 for n < 20, 1 for T <= 3,600 n, 2 above; fourth order always 0.
-pub fn verdict(order: i64, n: i128, t: i128) -> i128 {
-    if order != 3 || n < 20 {
-        0
-    } else if t <= 3_600 * n {
-        1
-    } else {
-        2
+/// 0 for n < 20, 1 for a T within its limit for n sections, 2 above; sections of one run
+/// always 0.
+pub fn verdict(class: Class, n: i128, t: i128) -> i128 {
+    match class.terms().both_ways {
+        Some(set) if n >= 20 && t > set.accidental * n => 2,
+        Some(_) if n >= 20 => 1,
+        _ => 0,
     }
 }

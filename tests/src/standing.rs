@@ -1,17 +1,16 @@
-//! What the rules ask of the lists that the plain reading keeps, and what a
-//! closing gives. Nothing here changes a list.
+//! What the rules ask of the lists that the plain reading keeps. Nothing here
+//! changes a list.
 
-use crate::adjust;
 use crate::fraction::narrow;
-use crate::plain::{Closing, Opened, Point, Reading, Stage};
-use crate::rules;
+use crate::plain::{Opened, Reading, Stage};
+use crate::rules::{self, Class};
 
 impl Reading {
     /// What was opened, or 21 on a book that is not open (document 01, "What the
     /// book's state causes").
-    pub fn open_line(&self) -> Result<Opened, u8> {
-        match (self.stage, self.opened) {
-            (Stage::Open, Some(opened)) => Ok(opened),
+    pub fn open_line(&self) -> Result<(Class, Opened), u8> {
+        match (self.stage, self.class, self.opened) {
+            (Stage::Open, Some(class), Some(opened)) => Ok((class, opened)),
             _ => Err(21),
         }
     }
@@ -41,10 +40,10 @@ impl Reading {
     }
 
     /// An outward run ends on a number not yet on the line; the start number
-    /// alone may come again, once a section stands.
-    pub fn may_end_outward_on(&self, number: i64, start: i64) -> bool {
+    /// alone may come again, once a section stands, but not on a spur.
+    pub fn may_end_outward_on(&self, number: i64, class: Class, start: i64) -> bool {
         if number == start {
-            return !self.sections.is_empty();
+            return class.may_be_loop() && !self.sections.is_empty();
         }
         self.sections.iter().all(|one| one.number != number)
     }
@@ -62,48 +61,11 @@ impl Reading {
         self.sections.iter().map(|one| (narrow(one.q()), narrow(one.r()))).collect()
     }
 
-    /// T, the sum of t over the sections; fourth order has none.
+    /// T, the sum of t over the sections that have a return.
     pub fn sum_of_squares(&self) -> i128 {
         self.sections
             .iter()
             .filter_map(|one| one.d().map(|d| rules::square_per_km(d, one.r())))
             .sum()
-    }
-
-    /// What closing on this end height gives, limits untested (document 01,
-    /// "Closure, corrections, heights").
-    pub fn closing(&self, opened: Opened, end_height: i64) -> Closing {
-        let sums = self.sums_of_sections();
-        let l: i128 = sums.iter().map(|&(_, r)| i128::from(r)).sum();
-        let n = self.sections.len() as i128;
-        let t = self.sum_of_squares();
-        Closing {
-            w: narrow(adjust::closure(opened.height, end_height, &sums)),
-            l: narrow(l),
-            n: narrow(n),
-            t: narrow(t),
-            verdict: narrow(rules::verdict(opened.order, n, t)),
-            points: self.points(opened, end_height, &sums),
-        }
-    }
-
-    /// The start with S and correction 0, then one point for each section.
-    fn points(&self, opened: Opened, end_height: i64, sums: &[(i64, i64)]) -> Vec<Point> {
-        let heights = adjust::heights(opened.height, end_height, sums);
-        let corrections = adjust::corrections(opened.height, sums, &heights);
-        let start =
-            Point { number: opened.start, distance: 0, correction: 0, height: opened.height };
-        let mut distance = 0;
-        let mut points = vec![start];
-        for (k, section) in self.sections.iter().enumerate() {
-            distance += sums[k].1;
-            points.push(Point {
-                number: section.number,
-                distance,
-                correction: corrections[k],
-                height: heights[k],
-            });
-        }
-        points
     }
 }

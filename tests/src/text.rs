@@ -1,5 +1,5 @@
-//! The text book (document 01, "The text book and the report"), read from any
-//! bytes.
+//! The text book (document 01, "The text book and the report"; document 02, W-202), read
+//! from any bytes.
 
 use crate::plain::{Call, Opened};
 
@@ -68,6 +68,8 @@ pub fn fields_of(tag: &[u8]) -> Option<usize> {
         b"DRR" => Some(0),
         b"DRS" => Some(0),
         b"END" => Some(2),
+        b"SPR" => Some(4),
+        b"FIN" => Some(1),
         _ => None,
     }
 }
@@ -89,8 +91,10 @@ pub fn parse_line(piece: &[u8]) -> Result<Call, u8> {
 /// The call of a known tag with as many numbers as the tag has fields. STA
 /// gives K, u, l, m, r of the back staff, then of the fore staff.
 fn call(tag: &[u8], n: &[i64]) -> Call {
+    let opened = || Opened { order: n[0], instrument: n[1], start: n[2], height: n[3] };
     match tag {
-        b"LIN" => Call::Open(Opened { order: n[0], instrument: n[1], start: n[2], height: n[3] }),
+        b"LIN" => Call::Open(opened()),
+        b"SPR" => Call::OpenSpur(opened()),
         b"STA" => Call::Station {
             back_k: n[0],
             fore_k: n[5],
@@ -99,6 +103,7 @@ fn call(tag: &[u8], n: &[i64]) -> Call {
         b"RUN" => Call::EndRun(n[0]),
         b"DRR" => Call::DropRun,
         b"DRS" => Call::DropSection,
+        b"FIN" => Call::CloseSpur(n[0]),
         _ => Call::CloseLine { number: n[0], height: n[1] },
     }
 }

@@ -4,7 +4,7 @@ use crate::mutate::any_call;
 use crate::opening::opening_of;
 use crate::caller::{Goal, Caller};
 use crate::plain::Call;
-use crate::rules::STATIONS_OF_A_RUN;
+use crate::rules::{Class, STATIONS_OF_A_RUN};
 
 impl Caller<'_> {
     /// Opens the line; before and after it something may go wrong.
@@ -19,27 +19,28 @@ impl Caller<'_> {
                 _ => self.wrong_opening(),
             }
         }
-        for call in opening_of(self.opening_values()) {
+        for call in opening_of(self.style.class, self.opening_values()) {
             self.put(call);
         }
         if self.mistaken() {
-            let again = self.opening_values();
-            self.put(Call::Open(again));
+            let again = self.doubtful_opening();
+            self.put(again);
         }
     }
 
-    /// An opening with one or two bad arguments.
+    /// An opening with one or two bad arguments; a spur's order 3 is one.
     fn wrong_opening(&mut self) {
+        let spur = self.style.class == Class::Spur;
         let mut opened = self.opening_values();
         for _ in 0..=self.random.below(2) {
             match self.random.below(4) {
-                0 => opened.order = *self.random.pick(&[2, 5, 0, -3]),
+                0 => opened.order = *self.random.pick(&[if spur { 3 } else { 2 }, 5, 0, -3]),
                 1 => opened.instrument = *self.random.pick(&[2, 0, 4, -1, 5]),
                 2 => opened.start = *self.random.pick(&[0, 10_000, -1]),
                 _ => opened.height = *self.random.pick(&[-1_000_000, 9_000_000]),
             }
         }
-        self.put(Call::Open(opened));
+        self.put(if spur { Call::OpenSpur(opened) } else { Call::Open(opened) });
     }
 
     /// Stations until the run has as many as its goal; a refused one is shot
@@ -107,8 +108,11 @@ impl Caller<'_> {
         }
         for attempt in 0..3 {
             let number = self.reading.section_begin(self.opened().start);
-            let height = self.wished_end(attempt == 2);
-            if self.put(Call::CloseLine { number, height }) {
+            let call = match self.class() {
+                Class::Spur => Call::CloseSpur(number),
+                _ => Call::CloseLine { number, height: self.wished_end(attempt == 2) },
+            };
+            if self.put(call) {
                 return;
             }
         }
@@ -134,7 +138,7 @@ impl Caller<'_> {
         let goal = Goal { stations: 2, sum: 400, twice: 0 };
         for _ in 0..self.random.below(4) {
             let call = match self.random.below(6) {
-                0 => Call::Open(self.opening_values()),
+                0 => self.doubtful_opening(),
                 1 => self.doubtful_closing(),
                 2 => Call::EndRun(self.doubtful_number()),
                 3 => self.random.pick(&[Call::DropRun, Call::DropSection]).clone(),

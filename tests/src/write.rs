@@ -30,10 +30,10 @@ pub fn heading() -> Vec<u8> {
 
 /// The tag and numbers of a call.
 pub fn words_of(call: &Call) -> (&'static str, Vec<i64>) {
+    let four = |Opened { order, instrument, start, height }| vec![order, instrument, start, height];
     match *call {
-        Call::Open(Opened { order, instrument, start, height }) => {
-            ("LIN", vec![order, instrument, start, height])
-        }
+        Call::Open(opened) => ("LIN", four(opened)),
+        Call::OpenSpur(opened) => ("SPR", four(opened)),
         Call::Station { back_k, fore_k, readings: [back, fore] } => {
             let mut numbers = vec![back_k];
             numbers.extend(back);
@@ -45,13 +45,15 @@ pub fn words_of(call: &Call) -> (&'static str, Vec<i64>) {
         Call::DropRun => ("DRR", vec![]),
         Call::DropSection => ("DRS", vec![]),
         Call::CloseLine { number, height } => ("END", vec![number, height]),
+        Call::CloseSpur(number) => ("FIN", vec![number]),
     }
 }
 
 /// A call as the list runner takes it: its kind and its arguments, which are those of its text line.
 pub fn numbers_of(call: &Call) -> Vec<i64> {
     let (tag, numbers) = words_of(call);
-    let kind = ["LIN", "STA", "RUN", "DRR", "DRS", "END"].iter().position(|&one| one == tag).expect("a tag") as i64 + 1;
+    let kinds = ["LIN", "STA", "RUN", "DRR", "DRS", "END", "SPR", "FIN"];
+    let kind = kinds.iter().position(|&one| one == tag).expect("a tag") as i64 + 1;
     [vec![kind], numbers].concat()
 }
 

@@ -1,16 +1,15 @@
 //! Lists of entries run by the proved book, compared with the other implementation's plain reading of their calls.
 use std::collections::BTreeMap;
 
-use level_tests::fraction::narrow;
+use level_tests::adjust::closing_keeps_promises;
+use level_tests::closing::{Closing, Point};
+use level_tests::figures::{figures_of, read, FIGURES};
 use level_tests::generate::book;
 use level_tests::mutate::any_call;
-use level_tests::plain::{Answer, Call, Closing, Opened, Point, Reading};
+use level_tests::plain::{Call, Opened, Reading};
 use level_tests::random::Random;
-use level_tests::station::{accumulated_d, sum_of_heights, sum_of_sights};
+use level_tests::rules::Class;
 use level_tests::write::numbers_of;
-
-/// The figures of a book: W, L, n, T, verdict, five of the line, and four of each of 65 points.
-const FIGURES: usize = 10 + 4 * 65;
 
 /// An entry that begins with these numbers; the others are anything.
 fn entry(random: &mut Random, first: &[i64]) -> [i64; 11] {
@@ -29,6 +28,8 @@ fn typed(call: &Call) -> levelbook::Call {
         Call::DropRun => levelbook::Call::DropRun,
         Call::DropSection => levelbook::Call::DropSection,
         Call::CloseLine { number, height } => levelbook::Call::CloseLine { number, height },
+        Call::OpenSpur(Opened { order, instrument, start, height }) => levelbook::Call::OpenSpur { order, instrument, start, height },
+        Call::CloseSpur(number) => levelbook::Call::CloseSpur { number },
     }
 }
 
@@ -51,24 +52,7 @@ fn compare_typed(calls: &[Call], numbers: &[u8], reading: &Reading, closed: &Opt
 
 /// A kind that is no call's.
 fn no_kind(random: &mut Random) -> i64 {
-    *random.pick(&[0, 7, 8, -1, -2, 257, 258, (1 << 32) + 1, (1 << 62) + 2, i64::MAX, i64::MIN, i64::MIN + 3])
-}
-
-/// What the plain reading is left with, as the figures of a book.
-fn figures_of(reading: &Reading, closed: &Option<Closing>) -> Vec<i64> {
-    let mut figures = vec![0; FIGURES];
-    if let Some(closing) = closed {
-        figures[..5].copy_from_slice(&[closing.w, closing.l, closing.n, closing.t, closing.verdict]);
-        for (k, point) in closing.points.iter().enumerate() {
-            figures[10 + 4 * k..14 + 4 * k].copy_from_slice(&[point.number, point.distance, point.correction, point.height]);
-        }
-    }
-    figures[5] = reading.run.len() as i64;
-    figures[6] = narrow(sum_of_heights(&reading.run));
-    figures[7] = narrow(sum_of_sights(&reading.run));
-    figures[8] = narrow(accumulated_d(&reading.run));
-    figures[9] = reading.sections.len() as i64;
-    figures
+    *random.pick(&[0, 9, 10, -1, -2, 257, 258, (1 << 32) + 1, (1 << 62) + 2, i64::MAX, i64::MIN, i64::MIN + 3])
 }
 
 /// A list over another's first places, as far as it has places.
@@ -79,35 +63,38 @@ fn over<T: Copy>(list: &[T], old: &[T]) -> Vec<T> {
     written
 }
 
-/// Runs a list of calls both ways, with entries of no kind between them and a rest behind them, and counts the calls' numbers and these 1s; 0 of a closing
-/// counts as 100.
+/// In the counts, the closing of a line and of a spur.
+const CLOSED: u8 = 100;
+const SPUR_CLOSED: u8 = 101;
+
+/// What a closing gives keeps its promises, whose exact fractions are computed from the standing list.
+fn check_closing(reading: &Reading, closing: &Closing, counts: &mut BTreeMap<u8, u64>) {
+    let opened = reading.opened.expect("a closed line was opened");
+    let kept = closing_keeps_promises(opened.height, reading.end_height, &reading.sums_of_sections(), closing);
+    assert_eq!(kept, Ok(()), "{reading:?}");
+    let which = if reading.class == Some(Class::Spur) { SPUR_CLOSED } else { CLOSED };
+    *counts.entry(which).or_default() += 1;
+}
+
+/// Runs a list of calls both ways, with entries of no kind between them and a rest behind them, and counts the calls' numbers, these 1s and the closings.
 fn compare(random: &mut Random, calls: &[Call], counts: &mut BTreeMap<u8, u64>) {
-    let mut reading = Reading::fresh();
-    let mut closed = None;
-    let (mut answered, mut expected) = (Vec::new(), Vec::new());
-    let mut list = Vec::new();
-    for call in calls {
+    let (answered, reading, closed) = read(calls);
+    if let Some(closing) = &closed {
+        check_closing(&reading, closing, counts);
+    }
+    let (mut list, mut expected) = (Vec::new(), Vec::new());
+    for (call, &number) in calls.iter().zip(&answered) {
         if random.chance(1, 60) {
             let none = no_kind(random);
             list.extend(entry(random, &[none]));
             expected.push(1);
         }
         list.extend(entry(random, &numbers_of(call)));
-        let number = match reading.apply(call) {
-            Answer::Refused(number) => number,
-            Answer::Taken => 0,
-            Answer::Closed(closing) => {
-                assert_eq!(closed.replace(closing), None, "closed twice: {calls:?}");
-                *counts.entry(100).or_default() += 1;
-                0
-            }
-        };
-        answered.push(number);
         expected.push(number);
     }
     compare_typed(calls, &answered, &reading, &closed);
     let rest = random.below(11);
-    list.extend((0..rest).map(|_| random.between(0, 7)));
+    list.extend((0..rest).map(|_| random.between(0, 9)));
     if rest > 0 {
         expected.push(1);
     }
@@ -137,7 +124,8 @@ fn hundred_thousand_lists() {
         assert!(counts.get(&number).is_some_and(|&count| count >= 20), "too few of {number}: {counts:?}");
     }
     assert_eq!(counts.get(&20), None);
-    assert!(counts[&100] >= 30_000, "too few closings: {counts:?}");
+    assert!(counts[&41] >= 5_000, "too few of 41: {counts:?}");
+    assert!(counts[&CLOSED] >= 20_000 && counts[&SPUR_CLOSED] >= 10_000, "too few closings: {counts:?}");
 }
 
 /// Calls whose arguments are anything, in any order.

@@ -7,10 +7,11 @@ use level_tests::examples::{book, examples};
 use level_tests::generate::{line, Kind};
 use level_tests::largest::{after_heading, blank_lines, largest_book, refused_late, sixty_four_sections};
 use level_tests::mutate::any_call;
-use level_tests::opening::opening;
+use level_tests::opening::{opening, usual};
 use level_tests::plain::Call;
 use level_tests::random::Random;
 use level_tests::report::{reduce_into, SHORTEST_BUFFER};
+use level_tests::rules::Class;
 use level_tests::text::{number, LINE, LONGEST_TEXT};
 use level_tests::write::{filled, heading, line_of, text_of};
 use levelbook::raw::level_reduce;
@@ -83,7 +84,7 @@ fn the_examples() {
 fn twenty_thousand_books() {
     let mut random = Random::new(20_261_117);
     let mut refusals = BTreeMap::<i64, u64>::new();
-    let mut verdicts = BTreeMap::<i64, u64>::new();
+    let mut verdicts = BTreeMap::<(bool, i64), u64>::new();
     for _ in 0..20_000 {
         let mut text = text_book(&mut random);
         if random.chance(1, 8) {
@@ -92,20 +93,22 @@ fn twenty_thousand_books() {
             }
         }
         let Ok(report) = compare(&text) else { continue };
+        let spur = text.chunks(LINE).map(|one| &one[..one.len().min(3)]).find(|&one| one == b"LIN" || one == b"SPR") == Some(b"SPR");
         for line in report.chunks(LINE) {
             match &line[..3] {
                 b"REF" => *refusals.entry(field(line, 1)).or_default() += 1,
-                b"CLO" => *verdicts.entry(field(line, 4)).or_default() += 1,
+                b"CLO" => *verdicts.entry((spur, field(line, 4))).or_default() += 1,
                 _ => {}
             }
         }
     }
-    println!("verdict  lines closed");
-    verdicts.iter().for_each(|(verdict, count)| println!("{verdict:7} {count:13}"));
+    println!("spur first  verdict  closed");
+    verdicts.iter().for_each(|((spur, verdict), count)| println!("{spur:10} {verdict:8} {count:7}"));
     println!("refusal  text lines");
-    (1..=36).for_each(|number| println!("{number:7} {:11}", refusals.get(&number).unwrap_or(&0)));
-    assert!(refusals.keys().copied().eq((1..=8).chain(21..=36)), "{refusals:?}");
-    assert!(verdicts.keys().copied().eq(0..=2), "{verdicts:?}");
+    (1..=41).for_each(|number| println!("{number:7} {:11}", refusals.get(&number).unwrap_or(&0)));
+    assert!(refusals.keys().copied().eq((1..=8).chain(21..=36).chain([41])), "{refusals:?}");
+    assert!(refusals[&41] >= 500, "too few of 41: {refusals:?}");
+    assert_eq!(verdicts.len(), 6, "each verdict of lines and of spurs: {verdicts:?}");
 }
 
 #[test]
@@ -136,33 +139,34 @@ fn the_first_line() {
 
 #[test]
 fn sixty_four_sections_in_a_text() {
-    for (order, closing, second) in [
-        (3, "CLO      40  102400      64       0       1", "PNT       2    1600       0   10550"),
-        (4, "CLO      40  102400      64       0       0", "PNT       2    1600       0   10550"),
+    for (class, closing, last) in [
+        (Class::Third, "CLO      40  102400      64       0       1", "PNT      65  102400       0   45190"),
+        (Class::Fourth, "CLO      40  102400      64       0       0", "PNT      65  102400       0   45190"),
+        (Class::Spur, "CLO       0  102400      64       0       1", "PNT      65  102400       0   45200"),
     ] {
-        let report = compare(&text_of(&sixty_four_sections(order, 64))).unwrap();
+        let report = compare(&text_of(&sixty_four_sections(class, 64))).unwrap();
         assert_eq!(report.len(), 67 * LINE);
         assert_eq!(words(&report[LINE..2 * LINE]), words(&filled(closing)));
-        assert_eq!(words(&report[3 * LINE..4 * LINE]), words(&filled(second)));
-        assert_eq!(words(&report[66 * LINE..]), words(&filled("PNT      65  102400       0   45190")));
+        assert_eq!(words(&report[3 * LINE..4 * LINE]), words(&filled("PNT       2    1600       0   10550")));
+        assert_eq!(words(&report[66 * LINE..]), words(&filled(last)));
     }
 }
 
 /// 777 lines: all refused but the heading; all taken; 64 sections with refused lines before the end; and any calls after a long line's.
 #[test]
 fn the_largest_text() {
-    let order_5 = line_of(&opening(5)[0]).unwrap();
-    for (line, refusal) in [(filled(""), 1), (filled("RUN"), 2), (order_5, 3), (filled("DRR"), 21)] {
+    let order_5 = line_of(&Call::Open(usual(5))).unwrap();
+    for (line, refusal) in [(filled(""), 1), (filled("RUN"), 2), (order_5, 3), (filled("DRR"), 21), (filled("FIN       1"), 21)] {
         let text = after_heading(&line);
         assert_eq!(text.len(), LONGEST_TEXT);
         let report = compare(&text).unwrap();
         assert_eq!(report.len(), 778 * LINE);
         assert_eq!(report[776 * LINE..777 * LINE], filled(&format!("REF     777{refusal:>8}")));
     }
-    for order in [3, 4] {
-        assert_eq!(compare(&largest_book(order)).unwrap().len(), 67 * LINE);
-        let report = compare(&refused_late(order)).unwrap();
-        assert_eq!(report.len(), (67 + 776 - sixty_four_sections(order, 64).len()) * LINE);
+    for class in Class::ALL {
+        assert_eq!(compare(&largest_book(class)).unwrap().len(), 67 * LINE);
+        let report = compare(&refused_late(class)).unwrap();
+        assert_eq!(report.len(), (67 + 776 - sixty_four_sections(class, 64).len()) * LINE);
     }
     let mut random = Random::new(24);
     for _ in 0..200 {
@@ -185,7 +189,7 @@ fn the_largest_text() {
 #[test]
 fn every_length() {
     let mut random = Random::new(25);
-    let mut long = text_of(&sixty_four_sections(4, 64));
+    let mut long = text_of(&sixty_four_sections(Class::Fourth, 64));
     while long.len() < 65_400 {
         long.extend(filled("DRR"));
     }
@@ -222,7 +226,7 @@ fn every_buffer() {
 
 #[test]
 fn line_feeds_missing_doubled_or_others() {
-    for whole in [book("case-a"), book("section-dropped"), text_of(&sixty_four_sections(3, 64))] {
+    for whole in [book("case-a"), book("section-dropped"), text_of(&sixty_four_sections(Class::Third, 64))] {
         for feed in (83..whole.len()).step_by(LINE) {
             for other in [&b""[..], b"\n\n", b" ", b"\r", b"\r\n", b"\n\r", b"\0", b" \n", b"\n "] {
                 let mut text = whole.clone();
@@ -257,7 +261,7 @@ fn bytes_at_every_place() {
 /// All 256 bytes at every place of a short text.
 #[test]
 fn all_bytes() {
-    let whole = text_of(&[opening(4), vec![Call::CloseLine { number: 1, height: -9_999 }]].concat());
+    let whole = text_of(&[opening(Class::Fourth), vec![Call::CloseLine { number: 1, height: -9_999 }]].concat());
     for place in 0..whole.len() {
         for byte in 0..=255 {
             let mut text = whole.clone();

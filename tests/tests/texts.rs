@@ -1,7 +1,8 @@
 //! The other implementation's reading of lines and writing of points, by itself; the whole reports are compared in reports.rs.
 
+use level_tests::closing::{Closing, Point};
+use level_tests::plain::{Answer, Call, Opened, Reading};
 use level_tests::generate::short_book;
-use level_tests::plain::{Answer, Call, Closing, Opened, Point, Reading};
 use level_tests::random::Random;
 use level_tests::report::{reduce, report};
 use level_tests::text::{number, parse, parse_line, LONGEST_TEXT};
@@ -45,11 +46,10 @@ fn numbers_as_written() {
 #[test]
 fn every_tag_gives_its_call() {
     let station = [4787, 1571, 1197, 1384, 6171, 4687, 739, 363, 551, 5239];
+    let opened = Opened { order: 4, instrument: 3, start: 1, height: 10_000 };
     let calls = [
-        (
-            line("LIN", &[4, 3, 1, 10_000]),
-            Call::Open(Opened { order: 4, instrument: 3, start: 1, height: 10_000 }),
-        ),
+        (line("LIN", &[4, 3, 1, 10_000]), Call::Open(opened)),
+        (line("SPR", &[4, 3, 1, 10_000]), Call::OpenSpur(opened)),
         (
             line("STA", &station),
             Call::Station {
@@ -62,6 +62,7 @@ fn every_tag_gives_its_call() {
         (line("DRR", &[]), Call::DropRun),
         (line("DRS", &[]), Call::DropSection),
         (line("END", &[3, -5]), Call::CloseLine { number: 3, height: -5 }),
+        (line("FIN", &[3]), Call::CloseSpur(3)),
     ];
     for (written, call) in calls {
         assert_eq!(parse_line(&written.unwrap()), Ok(call));
@@ -70,7 +71,7 @@ fn every_tag_gives_its_call() {
 
 #[test]
 fn one_comes_before_two() {
-    let cases: [(&str, u8); 12] = [
+    let cases: [(&str, u8); 17] = [
         ("RUN        ", 2),
         ("RUN       x", 2),
         ("RUN       xx", 1),
@@ -83,6 +84,11 @@ fn one_comes_before_two() {
         ("", 1),
         ("END       3", 2),
         ("LIN       4       3       1   10000       0", 1),
+        ("SPR       4       3       1   10000       0", 1),
+        ("SPR       4       3       1", 2),
+        ("FIN       3       0", 1),
+        ("FIN", 2),
+        ("fin       3", 1),
     ];
     for (words, refusal) in cases {
         assert_eq!(parse_line(&filled(words)), Err(refusal), "{words:?}");
@@ -141,4 +147,16 @@ fn a_low_height_takes_sixteen_columns() {
     ];
     let expected: Vec<u8> = expected.iter().flat_map(|one| filled(one)).collect();
     assert_eq!(report(&[(7, 36)], 3, Some(&closing)), expected);
+}
+
+/// No list of calls leads there yet: 25 D² ≤ 2 R keeps a section's t to 40,000 on a spur, 625 D² ≤ 18 R to 14,400 at third order.
+#[test]
+fn a_large_t_is_printed_as_eight_nines() {
+    let points = vec![Point { number: 12, distance: 0, correction: 0, height: 5 }];
+    for (t, printed) in [(0, "       0"), (99_999_998, "99999998"), (99_999_999, "99999999"), (100_000_000, "99999999"), (i64::MAX, "99999999")] {
+        let closing = Closing { w: 0, l: 76_800_000, n: 64, t, verdict: 2, points: points.clone() };
+        let clo = format!("CLO       076800000      64{printed}       2");
+        let expected = ["REDUCED LEVELS", &clo, "PNT      12       0       0       5"].map(filled).concat();
+        assert_eq!(report(&[], 64, Some(&closing)), expected);
+    }
 }

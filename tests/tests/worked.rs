@@ -1,12 +1,13 @@
 //! Worked lists of calls, run by the proved book: case A, the practice stations of source document 001 (section 5.4.1), and the rules at their limits.
 
 use level_tests::opening::opening;
+use level_tests::rules::Class;
 use level_tests::write::numbers_of;
 
 type Call = Vec<i64>;
 
 fn open(order: i64) -> Vec<Call> {
-    opening(order).iter().map(numbers_of).collect()
+    opening(Class::of_line(order).expect("an order")).iter().map(numbers_of).collect()
 }
 
 fn station(back_k: i64, back: [i64; 4], fore: [i64; 4]) -> Call {
