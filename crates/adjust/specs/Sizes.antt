@@ -18,7 +18,7 @@ mostD = 100000
 abbrev pub mostT : ℕ
 mostT = 500000 * (mostD * mostD) + 1
 
--- what an order allows of T for each section: none allows as much
+-- what a class of line allows of T for each section: none allows as much
 abbrev pub mostAllowed : ℕ
 mostAllowed = 1000000
 

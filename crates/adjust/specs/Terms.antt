@@ -25,7 +25,7 @@ termsOf Third =
       circuit = pos 4000000;
       accidental = pos 3600;
     }
--- levelled one way; W within 20 √km; L at most 80 km, for a loop 100 km. Sections of one run have no D and no T: `apart` is never looked at, and there is no verdict
+-- levelled one way; W within 20 √km; L at most 80 km, for a loop 100 km. Sections of one run have no D and no T: `apart` decides nothing, and there is no verdict
 termsOf Fourth =
     record {
       double = false;
@@ -36,7 +36,7 @@ termsOf Fourth =
       circuit = pos 2000000;
       accidental = pos 0;
     }
--- levelled out and back to an end that is not known; D within 20 √km; T at most 10,000 × n. There is no closure and no limit of length: `closing`, `longest` and `circuit` are never looked at
+-- levelled out and back to an end that is not known; D within 20 √km; T at most 10,000 × n. There is no closure and no limit of length: `closing`, `longest` and `circuit` decide nothing, since END on a spur is refused with 41 before 35 and 36
 termsOf Spur =
     record {
       double = true;

@@ -1,4 +1,4 @@
-// The points of a line between two known heights: from the one at its start, in mm, and its W and L.
+// The points of a line: from the known height at its start, in mm, and its W and L.
 ghost use mathlib.Core.Path.{_≡_};
 ghost use Prim.Native.Nat.{_≤_};
 ghost use lib.IntN.{natAbs, _+ℤ_};

@@ -145,7 +145,7 @@ fn closing_of(opening: Opening, end: i64, s: Sections) -> LineFigures
     }
 }
 
-// What closing the line gives, where `figures_fit`: W, L, n, T, the verdict and the points.
+// What closing the line gives, where `figures_fit`: W, L, n, T, the verdict and the points. Of a spur `end` is only held to its range.
 pub fn adjusted_line(opening: Opening, end: i64, s: Sections) -> LineFigures
     ensures { λ r. ⌜ r ≡ lineFigures opening end (sectionsOf s) ⌝ }
 {

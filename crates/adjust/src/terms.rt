@@ -22,7 +22,7 @@ pub struct Terms {
     pub double: bool,
     // Whether the line is tied to a known height at its end, and so has a closure.
     pub tied: bool,
-    // D, in half mm, against R, in half dm: 'D is within 12 √km'.
+    // D, in half mm, against R, in half dm: 'D is within 12 √km', of a spur 20 √km.
     pub apart: Root,
     // W, in quarter mm, against L, in half dm: 'third order (12 √km)', 'fourth (20 √km)'.
     pub closing: Root,
@@ -30,7 +30,7 @@ pub struct Terms {
     pub longest: i64,
     // The longest loop, or levelling circuit, in half dm: 'for a loop 200 and 100 km'.
     pub circuit: i64,
-    // The most of T for each section, in hundredths of mm² per km, from 20 sections on: 'T ≤ 3,600 × n'.
+    // The most of T for each section, in hundredths of mm² per km, from 20 sections on: 'T ≤ 3,600 × n', of a spur 10,000 × n.
     pub accidental: i64,
 }
 
@@ -59,7 +59,7 @@ pub fn terms_of(class: Class) -> Terms
             circuit: 4000000,
             accidental: 3600,
         },
-        // sections of one run have no D and no T: `apart` is never looked at, and there is no verdict
+        // sections of one run have no D and no T: `apart` decides nothing, and there is no verdict
         Class::Fourth => Terms {
             double: false,
             tied: true,
@@ -69,7 +69,7 @@ pub fn terms_of(class: Class) -> Terms
             circuit: 2000000,
             accidental: 0,
         },
-        // there is no closure and no limit of length: `closing`, `longest` and `circuit` are never looked at
+        // there is no closure and no limit of length: `closing`, `longest` and `circuit` decide nothing
         Class::Spur => Terms {
             double: true,
             tied: false,

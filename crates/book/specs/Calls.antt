@@ -46,7 +46,7 @@ freshBook =
 unfoldable pub bookAfter : Book → Call → Book
 bookAfter b c = cond (eqb (bookRefusal (standingOf b) c) 0) (bookWith b (taken (standingOf b) c)) b
 
--- what any call answers, by document 01's number, and the book that it leaves
+-- what any call answers, by the refusal number, and the book that it leaves
 abbrev pub stepOf : Book → Call → Step
 stepOf b c = record { number = bookRefusal (standingOf b) c; book = bookAfter b c }
 
@@ -54,7 +54,7 @@ stepOf b c = record { number = bookRefusal (standingOf b) c; book = bookAfter b 
 unfoldable pub outcome : Book → Call → Outcome
 outcome b c = record { answer = answerOf (bookRefusal (standingOf b) c); book = bookAfter b c }
 
--- r is that outcome, and its answer has, by `numberOf`, document 01's number
+-- r is that outcome, and its answer has, by `numberOf`, the refusal number
 abbrev pub Answers : Book → Call → Outcome → Type 0
 Answers b c r = (r ≡ outcome b c) × (numberOf (r .answer) ≡ bookRefusal (standingOf b) c)
 
@@ -64,7 +64,7 @@ Answers b c r = (r ≡ outcome b c) × (numberOf (r .answer) ≡ bookRefusal (st
 abbrev pub closingOf : Standing → Closing
 closingOf v = closing (v .line .opening) (v .line .end) (v .sections)
 
--- document 01's number of a closing's answer, and its values: W, L, n, T and the verdict
+-- the number of a closing's answer, 0 where it is not refused, and its values: W, L, n, T and the verdict
 abbrev pub closeNumber : CloseAnswer → ℕ
 closeNumber (Closed summary) = 0
 closeNumber (NotClosed n) = n
@@ -90,7 +90,7 @@ closeOutcome b c =
     let f : ClosedFigures = closeFigures (bookRefusal (standingOf b) c) (closedBy b c) in
     record { answer = f .answer; book = bookAfter b c; points = f .points }
 
--- r is that outcome, and its answer has, by `closeNumber` and `closeValues`, document 01's number and values
+-- r is that outcome, and its answer has, by `closeNumber` and `closeValues`, the refusal number and values
 abbrev pub Closes : Book → Call → CloseOutcome → Type 0
 Closes b c r =
     let n : ℕ = bookRefusal (standingOf b) c in
@@ -112,7 +112,7 @@ figuresRefusal b = firstOf (figuresTests (standingOf b))
 unfoldable pub figuresOf : Book → ClosedFigures
 figuresOf b = closeFigures (figuresRefusal b) (closingOf (standingOf b))
 
--- r is these, and its answer has document 01's number and values
+-- r is these, and its answer has the refusal number and values
 abbrev pub Tells : Book → ClosedFigures → Type 0
 Tells b r =
     let n : ℕ = figuresRefusal b in

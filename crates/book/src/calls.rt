@@ -140,8 +140,8 @@ fn not_closed(code: u8) -> ClosedFigures
     }
 }
 
-// The figures of a line between two known heights, where they fit.
-fn figures_between(opening: Opening, end: i64, s: Sections) -> ClosedFigures
+// The figures of a line up to its end height, where they fit. Of a spur the end height decides nothing.
+fn figures_up_to(opening: Opening, end: i64, s: Sections) -> ClosedFigures
     requires { ⌜ figuresFit (opening .start .height) end (sectionsOf s) ≡ true ⌝ }
     ensures { λ r. ⌜ r ≡ closeFigures 0 (closing opening end (sectionsOf s)) ⌝ }
 {
@@ -157,7 +157,7 @@ fn figures_between(opening: Opening, end: i64, s: Sections) -> ClosedFigures
     }
 }
 
-// What a closing answers with this number: the refusal, or where it is 0 the figures of the line between two known heights.
+// What a closing answers with this number: the refusal, or where it is 0 the figures of the line up to its end height.
 fn figures_by(number: u8, opening: Opening, end: i64, s: Sections) -> ClosedFigures
     requires { ⌜ (number ≡ 0 → figuresFit (opening .start .height) end (sectionsOf s) ≡ true) ⌝ }
     ensures { λ r. ⌜ r ≡ closeFigures number (closing opening end (sectionsOf s)) ⌝ }
@@ -165,7 +165,7 @@ fn figures_by(number: u8, opening: Opening, end: i64, s: Sections) -> ClosedFigu
     if number != 0 {
         return not_closed(number);
     }
-    figures_between(opening, end, s)
+    figures_up_to(opening, end, s)
 }
 
 // The outcome of a closing whose step was s, of the line of b.
@@ -195,7 +195,7 @@ pub fn close_line(b: Book, number: i64, end: i64) -> CloseOutcome
     closed_by(b, s, end)
 }
 
-// Close the spur on its last benchmark. There is no closure, and the heights are not corrected but rounded.
+// Close the spur on its last benchmark. W is 0, and the heights are start plus running Q, rounded to even.
 pub fn close_spur(b: Book, number: i64) -> CloseOutcome
     ensures { λ r. ⌜ Closes b (close-spur number) r ⌝ }
 {

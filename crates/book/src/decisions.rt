@@ -24,7 +24,7 @@ use rules::closing::close_spur_refusal;
 use rules::refusals::drop_refusal;
 use rules::refusals::end_refusal;
 use rules::refusals::open_refusal;
-use rules::refusals::spur_refusal;
+use rules::refusals::open_spur_refusal;
 use rules::refusals::station_refusal;
 use station::Readings;
 
@@ -74,7 +74,7 @@ fn open_change(
     )
 }
 
-fn spur_change(
+fn open_spur_change(
     line: Line,
     count: usize,
     order: i64,
@@ -84,7 +84,7 @@ fn spur_change(
 ) -> Change
     ensures { λ r. ⌜ r ≡ changeBy (bookRefusal (beside line count) (open-spur order instrument number height)) line (open-spur order instrument number height) ⌝ }
 {
-    let code = spur_refusal(line, count, order, instrument, number, height);
+    let code = open_spur_refusal(line, count, order, instrument, number, height);
     line_change(
         code,
         line,
@@ -223,7 +223,7 @@ pub fn decide<'a>(
             v[0],
             v[1],
         ),
-        Tag::Spr => spur_change(line, count, v[0], v[1], v[2], v[3]),
+        Tag::Spr => open_spur_change(line, count, v[0], v[1], v[2], v[3]),
         Tag::Fin => close_spur_change(
             line,
             count,

@@ -21,7 +21,7 @@ pub mod decisions;
 mod effects;
 pub mod storing;
 
-// What a call makes of a book: document 01's number, 0 where the call is taken; the line that it leaves; whether it finishes a section, and which.
+// What a call makes of a book: the refusal number, 0 where the call is taken; the line that it leaves; whether it finishes a section, and which.
 // It holds no array.
 pub struct Change {
     pub number: u8,
@@ -30,7 +30,7 @@ pub struct Change {
     pub section: Section,
 }
 
-// What any call answers, by document 01's number, and the book that it leaves: the very book where it is refused.
+// What any call answers, by the refusal number, and the book that it leaves: the very book where it is refused.
 pub struct Step {
     pub number: u8,
     pub book: Book,

@@ -16,7 +16,7 @@ use Rattle.columns.specs.Lines.{lineEnd, lineWith, widthOf, fields, allFit, col
 use Rattle.columns.specs.Records.{tagAmong, allNumbers, numbersIn, numbersLine, recordIn, lineIn}
 use Rattle.columns.specs.Texts.{linesBy, lines, joined}
 use Rattle.textbook.specs.Text.{refusalsFrom}
-use Rattle.fieldbook.specs.Report.{report}
+use Rattle.fieldbook.specs.Report.{report, shownT}
 
 -- the bytes of a text in ASCII
 abbrev pub bytesOf : String → List ℕ
@@ -46,3 +46,10 @@ reportA =
 pub case-a : report (bytesOf bookA) ≡ bytesOf reportA
 unfolding report linesBy lines joined lineIn recordIn numbersLine tagAmong allNumbers numbersIn putAt heading title lineWith lineEnd fieldOf candidate hasMinus valueOf same pad decimal digits digitsBy blanks tagLine lineFits columnsOf allFit widthOf fitsIn fields isWide refusalsFrom roundEven isWithin
 case-a = refl
+
+-- T in CLO, up to eight digits and beyond
+pub shown-99999999 : shownT (pos 99999999) ≡ pos 99999999
+shown-99999999 = refl
+
+pub shown-100000000 : shownT (pos 100000000) ≡ pos 99999999
+shown-100000000 = refl

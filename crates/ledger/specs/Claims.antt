@@ -14,7 +14,7 @@ use Rattle.adjust.specs.Line.{lineFrame, Closing, closing}
 use Rattle.adjust.specs.Claims.{Near, corrections, lastHeight, rawHeights}
 use Rattle.rules.specs.declared.Stage.the-variants.{Open, Closed}
 use Rattle.rules.specs.Standing.{Standing}
-use Rattle.rules.specs.Rules.{Call, drop-run, drop-section, close-line, close-spur, broken, inputTests, stateTests, bookRefusal, rank}
+use Rattle.rules.specs.Rules.{Call, drop-run, drop-section, close-line, close-spur, bookTests, bookRefusal, rank}
 use Rattle.ledger.specs.Plain.{Reading, freshReading, after, next, taken, refusal, standing, withLists, closings}
 
 -- ---- a closing
@@ -38,7 +38,7 @@ Ends false end gave = gave .summary .closure ≡ pos 0
 
 -- `gave` is what closing a line gave that then stood as v
 pub record SoundClosing (v : Standing) (gave : Closing) : Type 0 where
-  -- W, L, n, T, the verdict and each point are what the formulas make of v and the two known heights
+  -- W, L, n, T, the verdict and each point are what the formulas make of v and its known heights
   pub figures : gave ≡ closing (v .line .opening) (v .line .end) (v .sections)
   -- the bounds of `near` are multiples of L, so they bind
   pub long : pos 1 ≤ℤ gave .summary .distance
@@ -78,7 +78,7 @@ EveryList = (calls : List Call) → after freshReading calls .stage ≡ Closed �
 
 -- a book answers the lowest number that applies
 abbrev pub LowestGiven : Type 0
-LowestGiven = (v : Standing) (c : Call) → Lowest rank (inputTests c ++ ((20, broken v c) ∷ stateTests v c)) (bookRefusal v c)
+LowestGiven = (v : Standing) (c : Call) → Lowest rank (bookTests v c) (bookRefusal v c)
 
 -- ---- refused calls
 

@@ -139,7 +139,7 @@ taken r drop-run = withLists r (r .sections) (r .waiting) []
 taken r drop-section = withLists r (r .sections) none []
 taken r (close-line number end) = closedOn r end
 taken r (open-spur order instrument number height) = opened (openingOf Spur instrument number height)
--- the end height of a spur stays a placeholder
+-- a spur has no end height: 0 stands for it
 taken r (close-spur number) = closedOn r (pos 0)
 
 -- ---- a list of calls
@@ -151,7 +151,7 @@ refusal r c = Rules.refusal (standing r) c
 abbrev pub next : Reading → Call → Reading
 next r c = cond (eqb (refusal r c) 0) (taken r c) r
 
--- nothing is opened: the order, the instrument, the start and the end height are placeholders, which no rule looks at before a line is opened
+-- nothing is opened: the class, the instrument, the start and the end height are placeholders, which decide nothing before a line is opened
 abbrev pub freshReading : Reading
 freshReading =
     record {

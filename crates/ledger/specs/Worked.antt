@@ -156,8 +156,8 @@ starred =
 -- ---- a spur
 
 -- fourth order, DS3, from benchmark 1: A's section 1 out and back
-abbrev gone : ℕ → ℕ → List Call
-gone black red =
+abbrev spurOutAndBack : ℕ → ℕ → List Call
+spurOutAndBack black red =
     open-spur (pos 4) (pos 3) (pos 1) (pos 10000) ∷ a1 ∷ a2 ∷ end-run (pos 2)
     ∷ station (pos 4687) (pos 4787) backReadings1 ∷ station (pos 4787) (pos 4687) (backReadings2 black red) ∷ end-run (pos 1) ∷ []
 
@@ -170,17 +170,17 @@ corrected cs = map (λ (c : Closing). map (λ (p : Point). p .correction) (c .po
 
 -- R 2564: a return with D 14 is taken, with D 15 refused. FIN closes it, END does not; a height of 10654.5 is printed as the even 10654
 pub record SpurWorked : Type 0 where
-  pub d14 : standing (after freshReading (gone 1377 6064)) .sections ≡ section 2 2618 2564 14 ∷ []
-  pub d14-taken : refusals freshReading (gone 1377 6064) ≡ 0 ∷ 0 ∷ 0 ∷ 0 ∷ 0 ∷ 0 ∷ 0 ∷ []
-  pub d15-refused : refusals freshReading (gone 1377 6063) ≡ 0 ∷ 0 ∷ 0 ∷ 0 ∷ 0 ∷ 0 ∷ 32 ∷ []
-  pub by-end : refusals (after freshReading (gone 1377 6064)) (close-line (pos 2) (pos 10655) ∷ close-line (pos 0) (pos 0) ∷ close-spur (pos 1) ∷ close-spur (pos 2) ∷ close-spur (pos 2) ∷ [])
+  pub d14 : standing (after freshReading (spurOutAndBack 1377 6064)) .sections ≡ section 2 2618 2564 14 ∷ []
+  pub d14-taken : refusals freshReading (spurOutAndBack 1377 6064) ≡ 0 ∷ 0 ∷ 0 ∷ 0 ∷ 0 ∷ 0 ∷ 0 ∷ []
+  pub d15-refused : refusals freshReading (spurOutAndBack 1377 6063) ≡ 0 ∷ 0 ∷ 0 ∷ 0 ∷ 0 ∷ 0 ∷ 32 ∷ []
+  pub by-end : refusals (after freshReading (spurOutAndBack 1377 6064)) (close-line (pos 2) (pos 10655) ∷ close-line (pos 0) (pos 0) ∷ close-spur (pos 1) ∷ close-spur (pos 2) ∷ close-spur (pos 2) ∷ [])
       ≡ 41 ∷ 4 ∷ 34 ∷ 0 ∷ 21 ∷ []
-  pub no-closure : closures (closings freshReading (gone 1377 6064 ++ (close-spur (pos 2) ∷ []))) ≡ pos 0 ∷ []
-  pub heights-even : marks (closings freshReading (gone 1377 6064 ++ (close-spur (pos 2) ∷ []))) ≡ ((pos 1, pos 10000) ∷ (pos 2, pos 10654) ∷ []) ∷ []
-  pub corrections-left : corrected (closings freshReading (gone 1377 6064 ++ (close-spur (pos 2) ∷ []))) ≡ (pos 0 ∷ negℤ (pos 2) ∷ []) ∷ []
-  pub t : map (λ (c : Closing). c .summary .accidental) (closings freshReading (gone 1377 6064 ++ (close-spur (pos 2) ∷ []))) ≡ pos 38222 ∷ []
-  -- its second section may not end on the start number, as a line's may; FIN does not close a line, nor a fresh book; a spur is of fourth order
-  pub no-loop : refusals (after freshReading (gone 1377 6064)) (a1 ∷ a2 ∷ end-run (pos 1) ∷ end-run (pos 3) ∷ []) ≡ 0 ∷ 0 ∷ 30 ∷ 0 ∷ []
+  pub no-closure : closures (closings freshReading (spurOutAndBack 1377 6064 ++ (close-spur (pos 2) ∷ []))) ≡ pos 0 ∷ []
+  pub heights-even : marks (closings freshReading (spurOutAndBack 1377 6064 ++ (close-spur (pos 2) ∷ []))) ≡ ((pos 1, pos 10000) ∷ (pos 2, pos 10654) ∷ []) ∷ []
+  pub corrections-left : corrected (closings freshReading (spurOutAndBack 1377 6064 ++ (close-spur (pos 2) ∷ []))) ≡ (pos 0 ∷ negℤ (pos 2) ∷ []) ∷ []
+  pub t : map (λ (c : Closing). c .summary .accidental) (closings freshReading (spurOutAndBack 1377 6064 ++ (close-spur (pos 2) ∷ []))) ≡ pos 38222 ∷ []
+  -- its second section may not end on the start number, as a line's may; FIN does not close a line that is no spur, nor a fresh book; a spur is of fourth order
+  pub no-loop : refusals (after freshReading (spurOutAndBack 1377 6064)) (a1 ∷ a2 ∷ end-run (pos 1) ∷ end-run (pos 3) ∷ []) ≡ 0 ∷ 0 ∷ 30 ∷ 0 ∷ []
   pub loop : refusals (after freshReading (outAndBack 6067)) (a1 ∷ a2 ∷ end-run (pos 1) ∷ []) ≡ 0 ∷ 0 ∷ 0 ∷ []
   pub fin-on-line : refusals freshReading (close-spur (pos 2) ∷ open4 10000 ∷ a1 ∷ a2 ∷ end-run (pos 2) ∷ close-spur (pos 2) ∷ []) ≡ 21 ∷ 0 ∷ 0 ∷ 0 ∷ 0 ∷ 41 ∷ []
   pub order-3 : refusals freshReading (open-spur (pos 3) (pos 3) (pos 1) (pos 10000) ∷ []) ≡ 3 ∷ []

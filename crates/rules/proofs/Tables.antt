@@ -12,14 +12,11 @@ use Rattle.adjust.specs.Sections.{misfit}
 use Rattle.numbers.proofs.Tests.{or-r}
 use Rattle.numbers.proofs.Tables.{eachNumber, numbered, testOf, failed, rises}
 use Rattle.rules.specs.Standing.{Standing, lineBroken}
-use Rattle.rules.specs.Rules.{Call, open-line, station, end-run, drop-run, drop-section, close-line, open-spur, close-spur, isClosing, broken, inputTests, stateTests, refusal, bookRefusal, rank}
+use Rattle.rules.specs.Rules.{Call, open-line, station, end-run, drop-run, drop-section, close-line, open-spur, close-spur, isClosing, broken, inputTests, stateTests, refusal, bookTests, bookRefusal, rank}
 
--- a call's tests, and those of a book, which also tests for 20
+-- a call's tests
 abbrev pub tests : Standing → Call → List (ℕ × Bool)
 tests v c = inputTests c ++ stateTests v c
-
-abbrev pub bookTests : Standing → Call → List (ℕ × Bool)
-bookTests v c = inputTests c ++ ((20, broken v c) ∷ stateTests v c)
 
 pub record Tables (v : Standing) (c : Call) : Type 0 where
   -- no number is 0

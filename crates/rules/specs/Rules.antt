@@ -32,7 +32,7 @@ use Rattle.rules.specs.declared.Line.{Line}
 use Rattle.rules.specs.Standing.{Standing, isFresh, isOpen, isClosed, isEmpty, onLine, isShut, began, outwardOrReturn, isReturn, noRun, withStation, oneWay, bothWays, lineBroken}
 
 -- open, a line or a spur: order, instrument, start number and height; station: the constants and the readings, back and fore; end run: the benchmark's number;
--- close: the last number, and of a line the end height
+-- close: the last number, and of a line that is no spur the end height
 pub data Call : Type 0 where
   open-line : ℤ → ℤ → ℤ → ℤ → Call
   station : ℤ → ℤ → List (List ℤ) → Call
@@ -60,7 +60,7 @@ abbrev pub outOfTurn : Line → ℤ → Bool
 outOfTurn l kb =
     cond (eqb (l .present .count) 0) (outwardOrReturn (l .waiting) false (λ number run. eqZ kb (run .last))) (not (eqZ kb (l .present .last)))
 
--- an outward run ends on a number not yet on the line, the start number alone excepted once a section stands, and never on a spur; a return where its section began
+-- an outward run ends on a number not yet on the line, the start number alone excepted once a section stands, but not on a spur; a return where its section began
 abbrev pub numberAllowed : Standing → ℤ → Bool
 numberAllowed v number =
     cond (isReturn (v .line .waiting)) (eqZ number (began v))
@@ -115,6 +115,10 @@ stationTests l shut kb f =
 abbrev pub bookStationTests : Standing → ℤ → Figures → List (ℕ × Bool)
 bookStationTests v kb f = (20, lineBroken (v .line) (length (v .sections))) ∷ stationTests (v .line) (isShut v) kb f
 
+-- of opening, a line or a spur
+abbrev pub openState : Standing → List (ℕ × Bool)
+openState v = (21, not (isFresh (v .line .stage))) ∷ []
+
 -- of a closing on a number, by END or by FIN, up to 34: whether the line is one that is closed by the other of the two, and whether the end height is not that of the
 -- start where it must be
 abbrev pub closeTests : Standing → Bool → ℤ → Bool → List (ℕ × Bool)
@@ -126,7 +130,7 @@ closeTests v other number unlike =
 
 -- what the standing list causes
 abbrev pub stateTests : Standing → Call → List (ℕ × Bool)
-stateTests v (open-line order instrument number height) = (21, not (isFresh (v .line .stage))) ∷ []
+stateTests v (open-line order instrument number height) = openState v
 stateTests v (station kb kf readings) = stationTests (v .line) (isShut v) kb (figuresOf (stationOf kb kf readings))
 stateTests v (end-run number) =
     (21, not (isOpen (v .line .stage)) || isShut v)
@@ -138,7 +142,7 @@ stateTests v drop-run = (21, not (isOpen (v .line .stage))) ∷ []
 stateTests v drop-section = (21, not (isOpen (v .line .stage))) ∷ []
 stateTests v (close-line number end) =
     closeTests v (not (termsOf (v .line .opening .class) .tied)) number (isShut v && not (eqZ end (v .line .opening .start .height))) ++ lineTests v end
-stateTests v (open-spur order instrument number height) = (21, not (isFresh (v .line .stage))) ∷ []
+stateTests v (open-spur order instrument number height) = openState v
 stateTests v (close-spur number) = closeTests v (termsOf (v .line .opening .class) .tied) number false
 
 abbrev pub isClosing : Call → Bool
@@ -168,8 +172,11 @@ abbrev pub refusal : Standing → Call → ℕ
 refusal v c = firstOf (inputTests c ++ stateTests v c)
 
 -- and that a book gives, which also tests for 20
+abbrev pub bookTests : Standing → Call → List (ℕ × Bool)
+bookTests v c = inputTests c ++ ((20, broken v c) ∷ stateTests v c)
+
 unfoldable pub bookRefusal : Standing → Call → ℕ
-bookRefusal v c = firstOf (inputTests c ++ ((20, broken v c) ∷ stateTests v c))
+bookRefusal v c = firstOf (bookTests v c)
 
 -- the order in which the numbers are tested: as they stand, but 31 before 30, and 41 directly after 21
 abbrev pub rank : ℕ → ℕ
@@ -229,5 +236,5 @@ taken v drop-run = record { line = withRuns (v .line) (v .line .waiting) noRun; 
 taken v drop-section = record { line = withRuns (v .line) Nothing noRun; sections = v .sections }
 taken v (close-line number end) = record { line = closedAt (v .line) end; sections = v .sections }
 taken v (open-spur order instrument number height) = record { line = begun (openingOf Spur instrument number height); sections = [] }
--- the end height of a spur stays a placeholder
+-- a spur has no end height: 0 stands for it
 taken v (close-spur number) = record { line = closedAt (v .line) (pos 0); sections = v .sections }

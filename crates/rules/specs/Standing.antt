@@ -94,11 +94,11 @@ withStation u f kf =
       last = kf;
     }
 
--- a section of one run (fourth order): Q = 2G, R = 2s
+-- a section of one run (fourth order, but not on a spur): Q = 2G, R = 2s
 abbrev pub oneWay : ℤ → Run → Section
 oneWay number run = record { number = number; height = pos 2 *ℤ run .height; distance = pos 2 *ℤ run .sights; discrepancy = pos 0 }
 
--- a section of an outward run and its return (third order): Q = G − G′, R = s + s′, D = G + G′
+-- a section of an outward run and its return (third order, or a spur): Q = G − G′, R = s + s′, D = G + G′
 abbrev pub bothWays : ℤ → Run → Run → Section
 bothWays number out back =
     record { number = number; height = out .height -ℤ back .height; distance = out .sights +ℤ back .sights; discrepancy = out .height +ℤ back .height }

@@ -27,7 +27,7 @@ pub enum Waiting {
     Outward(i64, Run),
 }
 
-// All of a line but its finished sections. The end height is 0 until the line is closed.
+// All of a line but its finished sections. The end height is 0 until the line is closed, and on a spur.
 pub struct Line {
     pub stage: Stage,
     pub opening: Opening,

@@ -80,7 +80,7 @@ pub fn open_refusal(
 }
 
 // A spur is of fourth order.
-pub fn spur_refusal(
+pub fn open_spur_refusal(
     line: Line,
     count: usize,
     order: i64,

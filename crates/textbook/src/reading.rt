@@ -21,7 +21,7 @@ pub struct State {
     pub refusals: [u8; 778],
 }
 
-// What a line of the text is answered with, by document 01's number, and what it leaves beside the lists of the sections: the levelling line, and how many
+// What a line of the text is answered with, by the refusal number, and what it leaves beside the lists of the sections: the levelling line, and how many
 // sections there are.
 struct Taken {
     code: u8,

@@ -23,7 +23,7 @@ pub record Fitted (s : Sections) : Type 0 where
   pub few : s .count ≤ 64
   pub sections : anyOutside false (sectionsOf s) ≡ false
 
--- at least one section, and both known heights of at most 8,999,999 either way
+-- at least one section, and both heights of at most 8,999,999 either way
 pub record Between (start end : ℤ) (s : Sections) : Type 0 where
   pub some : 1 ≤ s .count
   pub fits : Fits s

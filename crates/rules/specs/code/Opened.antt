@@ -1,11 +1,11 @@
 -- The refusal of opening, a line or a spur: what the two have in common. No rule of document 01.
-use mathlib.Core.Bool.{Bool, false, not}
-use mathlib.Core.List.{[], _∷_, _++_}
+use mathlib.Core.Bool.{Bool, false}
+use mathlib.Core.List.{_∷_, _++_}
 use Prim.Native.Nat.{ℕ}
 use lib.IntN.{ℤ}
 use Rattle.numbers.specs.Tables.{firstOf}
-use Rattle.rules.specs.Standing.{Standing, isFresh}
-use Rattle.rules.specs.Rules.{openTests, brokenIn}
+use Rattle.rules.specs.Standing.{Standing}
+use Rattle.rules.specs.Rules.{openTests, openState, brokenIn}
 
 abbrev pub openRefusal : Standing → Bool → ℤ → ℤ → ℤ → ℕ
-openRefusal v ordered instrument number height = firstOf (openTests ordered instrument number height ++ ((20, brokenIn false v) ∷ (21, not (isFresh (v .line .stage))) ∷ []))
+openRefusal v ordered instrument number height = firstOf (openTests ordered instrument number height ++ ((20, brokenIn false v) ∷ openState v))

@@ -20,8 +20,8 @@ returns c =
     let a = t .before .args in
     c .not-closed .ensures ∙ none-given (a .number) (closing (a .opening) (a .end) (sectionsOf (a .s))) (t .if1 .taken) refl
 
-figures-between-requires : tie.Need-figures-between-requires
-figures-between-requires c κs =
+figures-up-to-requires : tie.Need-figures-up-to-requires
+figures-up-to-requires c κs =
     let s = c .before in
     let a = s .args in
     ap (λ (z : ℤ). figuresFit (a .opening .start .height) z (sectionsOf (a .s))) (stored-id (s .fits .end)) ∙ s .pre (c .if1 .left)
@@ -31,8 +31,8 @@ returns-2 c =
     let e = c .before in
     let s = e .before in
     let a = s .args in
-    c .figures-between .ensures ∙ ap (λ (z : ℤ). closeFigures 0 (closing (a .opening) z (sectionsOf (a .s)))) (stored-id (s .fits .end))
+    c .figures-up-to .ensures ∙ ap (λ (z : ℤ). closeFigures 0 (closing (a .opening) z (sectionsOf (a .s)))) (stored-id (s .fits .end))
     ∙ given (a .number) (closing (a .opening) (a .end) (sectionsOf (a .s))) (e .if1 .left)
 
 pub figures-by-spec : {M : Type 1} → statement M
-figures-by-spec = tie.close (tie.spec not-closed-requires returns figures-between-requires returns-2)
+figures-by-spec = tie.close (tie.spec not-closed-requires returns figures-up-to-requires returns-2)

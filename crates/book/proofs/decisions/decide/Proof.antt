@@ -145,31 +145,31 @@ returns-6 c =
 enum-told-7 : tie.Need-enum-told-7
 enum-told-7 c = search needs
 
-array-copy-out-spur-change : tie.Need-array-copy-out-spur-change
-array-copy-out-spur-change c = search needs
+array-copy-out-open-spur-change : tie.Need-array-copy-out-open-spur-change
+array-copy-out-open-spur-change c = search needs
 
-array-copy-out-spur-change-2 : tie.Need-array-copy-out-spur-change-2
-array-copy-out-spur-change-2 c = search needs
+array-copy-out-open-spur-change-2 : tie.Need-array-copy-out-open-spur-change-2
+array-copy-out-open-spur-change-2 c = search needs
 
-array-copy-out-spur-change-3 : tie.Need-array-copy-out-spur-change-3
-array-copy-out-spur-change-3 c = search needs
+array-copy-out-open-spur-change-3 : tie.Need-array-copy-out-open-spur-change-3
+array-copy-out-open-spur-change-3 c = search needs
 
-array-copy-out-spur-change-4 : tie.Need-array-copy-out-spur-change-4
-array-copy-out-spur-change-4 c = search needs
+array-copy-out-open-spur-change-4 : tie.Need-array-copy-out-open-spur-change-4
+array-copy-out-open-spur-change-4 c = search needs
 
-spur-change-requires : tie.Need-spur-change-requires
-spur-change-requires c κs = search needs
+open-spur-change-requires : tie.Need-open-spur-change-requires
+open-spur-change-requires c κs = search needs
 
-spur-1 : (c : tie.After-spur-change-arg) → SFits w64 (argument (c .before .before .before .args .t8) 0)
+spur-1 : (c : tie.After-open-spur-change-arg) → SFits w64 (argument (c .before .before .before .args .t8) 0)
 spur-1 c = search needs
 
-spur-2 : (c : tie.After-spur-change-arg2) → SFits w64 (argument (c .before .before .before .before .args .t8) 1)
+spur-2 : (c : tie.After-open-spur-change-arg2) → SFits w64 (argument (c .before .before .before .before .args .t8) 1)
 spur-2 c = search needs
 
-spur-3 : (c : tie.After-spur-change-arg3) → SFits w64 (argument (c .before .before .before .before .before .args .t8) 2)
+spur-3 : (c : tie.After-open-spur-change-arg3) → SFits w64 (argument (c .before .before .before .before .before .args .t8) 2)
 spur-3 c = search needs
 
-spur-4 : (c : tie.After-spur-change-arg4) → SFits w64 (argument (c .before .before .before .before .before .before .args .t8) 3)
+spur-4 : (c : tie.After-open-spur-change-arg4) → SFits w64 (argument (c .before .before .before .before .before .before .args .t8) 3)
 spur-4 c = search needs
 
 returns-7 : tie.Need-returns-7
@@ -177,7 +177,7 @@ returns-7 c =
     let d = c .before in
     let k = d .before .before .before .before in
     let s = k .before .before in
-    told s (k .enum-told7 .given .1) (spur-as (spur-1 (d .before .before .before)) (spur-2 (d .before .before)) (spur-3 (d .before)) (spur-4 d)) (spur-alike (book s) _ _ _ _) (c .spur-change .ensures)
+    told s (k .enum-told7 .given .1) (spur-as (spur-1 (d .before .before .before)) (spur-2 (d .before .before)) (spur-3 (d .before)) (spur-4 d)) (spur-alike (book s) _ _ _ _) (c .open-spur-change .ensures)
 
 enum-told-8 : tie.Need-enum-told-8
 enum-told-8 c = search needs
@@ -221,11 +221,11 @@ decide-spec =
     array-copy-out-close-change-2
     close-change-requires
     enum-told-7
-    array-copy-out-spur-change
-    array-copy-out-spur-change-2
-    array-copy-out-spur-change-3
-    array-copy-out-spur-change-4
-    spur-change-requires
+    array-copy-out-open-spur-change
+    array-copy-out-open-spur-change-2
+    array-copy-out-open-spur-change-3
+    array-copy-out-open-spur-change-4
+    open-spur-change-requires
     enum-told-8
     array-copy-out-close-spur-change
     close-spur-change-requires

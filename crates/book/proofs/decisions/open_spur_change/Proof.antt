@@ -1,15 +1,15 @@
--- `spur_change` meets its contract, by its refusal and its effect.
+-- `open_spur_change` meets its contract, by its refusal and its effect.
 use mathlib.Core.Path.{ap, _∙_}
 use Rattle.rules.specs.Rules.{begun}
 use Rattle.rules.specs.code.Seen.{beside}
 use Rattle.book.specs.code.Changes.{lineOnly, effectOf}
 use Rattle.book.proofs.Joined.{spur-as, change-made}
 use borrow.Author.Needs.{needs}
-use Rattle.book.proofs.decisions.spur_change.Statement.{statement}
-use Rattle.book.proofs.decisions.spur_change.Tie as tie
+use Rattle.book.proofs.decisions.open_spur_change.Statement.{statement}
+use Rattle.book.proofs.decisions.open_spur_change.Tie as tie
 
-spur-refusal-requires : tie.Need-spur-refusal-requires
-spur-refusal-requires c κs = search needs
+open-spur-refusal-requires : tie.Need-open-spur-refusal-requires
+open-spur-refusal-requires c κs = search needs
 
 opening-of-requires : tie.Need-opening-of-requires
 opening-of-requires c κs = search needs
@@ -28,9 +28,9 @@ returns c =
     let r = o .before in
     let s = r .before in
     let same = spur-as (s .fits .order) (s .fits .instrument) (s .fits .number) (s .fits .height) in
-    change-made (beside (s .args .line) (s .args .count)) (s .args .line) same (r .spur-refusal .ensures)
+    change-made (beside (s .args .line) (s .args .count)) (s .args .line) same (r .open-spur-refusal .ensures)
     (ap (lineOnly 0) (d .begun .ensures ∙ ap begun (o .opening-of .ensures))) (c .line-change .ensures)
 
-pub spur-change-spec : {M : Type 1} → statement M
-spur-change-spec =
-    tie.close (tie.spec spur-refusal-requires opening-of-requires begun-requires line-change-requires returns)
+pub open-spur-change-spec : {M : Type 1} → statement M
+open-spur-change-spec =
+    tie.close (tie.spec open-spur-refusal-requires opening-of-requires begun-requires line-change-requires returns)

@@ -1,4 +1,4 @@
--- `spur_refusal` meets its contract, by `opening_refusal`.
+-- `open_spur_refusal` meets its contract, by `opening_refusal`.
 use mathlib.Core.Path.{_∙_}
 use lib.IntN.{pos}
 use mir.Facts.{sfits-lit}
@@ -8,8 +8,8 @@ use Rattle.rules.specs.Rules.{bookRefusal}
 use Rattle.rules.specs.code.Seen.{beside}
 use Rattle.rules.specs.code.Opened.{openRefusal}
 use borrow.Author.Needs.{needs}
-use Rattle.rules.proofs.refusals.spur_refusal.Statement.{statement}
-use Rattle.rules.proofs.refusals.spur_refusal.Tie as tie
+use Rattle.rules.proofs.refusals.open_spur_refusal.Statement.{statement}
+use Rattle.rules.proofs.refusals.open_spur_refusal.Tie as tie
 
 opening-refusal-requires : tie.Need-opening-refusal-requires
 opening-refusal-requires c κs = search needs
@@ -23,5 +23,5 @@ returns c =
     ∙ (λ i. openRefusal (beside (s .args .line) (s .args .count)) (eq-as o (sfits-lit {z = pos 4} tt) i)
     (stored-id (s .fits .instrument) i) (stored-id (s .fits .number) i) (stored-id (s .fits .height) i))
 
-pub spur-refusal-spec : {M : Type 1} → statement M
-spur-refusal-spec = tie.close (tie.spec opening-refusal-requires returns)
+pub open-spur-refusal-spec : {M : Type 1} → statement M
+open-spur-refusal-spec = tie.close (tie.spec opening-refusal-requires returns)

@@ -1,4 +1,4 @@
--- `figures_between` meets its contract: where the figures fit they are the formulas'.
+-- `figures_up_to` meets its contract: where the figures fit they are the formulas'.
 use mathlib.Core.Path.{_≡_, sym, ap, _∙_}
 use mathlib.Core.Bool.{Bool, true, false}
 use lib.IntN.{ℤ}
@@ -14,8 +14,8 @@ use Rattle.adjust.specs.Frames.{adjustedOf, lineFigures}
 use Rattle.adjust.proofs.Sized.{figures-by}
 use Rattle.book.specs.declared.CloseAnswer.the-variants.{Closed}
 use borrow.Author.Needs.{needs}
-use Rattle.book.proofs.calls.figures_between.Statement.{statement}
-use Rattle.book.proofs.calls.figures_between.Tie as tie
+use Rattle.book.proofs.calls.figures_up_to.Statement.{statement}
+use Rattle.book.proofs.calls.figures_up_to.Tie as tie
 
 adjusted-line-requires : tie.Need-adjusted-line-requires
 adjusted-line-requires c κs = search needs
@@ -58,8 +58,8 @@ returns-2 c =
     let k = c .before in
     no-true (ap some (sym (k .enum-told .given .1) ∙ ap (λ (f : LineFigures). f .answer) (fit (k .before .before .before))))
 
-pub figures-between-spec : {M : Type 1} → statement M
-figures-between-spec =
+pub figures-up-to-spec : {M : Type 1} → statement M
+figures-up-to-spec =
     tie.close
     (tie.spec
     adjusted-line-requires
