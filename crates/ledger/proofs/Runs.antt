@@ -1,7 +1,7 @@
 -- How large a run and a section get: a taken station keeps a run's sums within its count, so runs and the sections made of them fit, in 64 bits and in
 -- the report's fields.
 use mathlib.Core.Path.{_≡_, ap, subst}
-use mathlib.Core.Bool.{Bool, true, _&&_}
+use mathlib.Core.Bool.{Bool, true, cond, _&&_}
 use mathlib.Core.List.{List}
 use Prim.Native.Nat.{ℕ, _+_, _*_, _≤_, _<_}
 use native.Mathlib.Decide.{decLe}
@@ -11,7 +11,7 @@ use borrow.Author.Tests.{le-leb, leb-false}
 use lib.IntN.{ℤ, pos, natAbs, _+ℤ_, _-ℤ_, _*ℤ_}
 use lib.Signed.{_≤ℤ_, _<ℤ_, ltZ}
 use Rattle.numbers.specs.Whole.{within}
-use Rattle.numbers.proofs.Tests.{and-l, and-r, not-false}
+use Rattle.numbers.proofs.Tests.{by-test, and-l, and-r, not-false}
 use Rattle.numbers.proofs.Ring.{ringℤ}
 use Rattle.numbers.proofs.Tables.{first-none}
 use Rattle.numbers.proofs.Parts.{ints, posPart, negPart, parts-add, parts-sub, parts-times, parts-abs, test-lt}
@@ -34,7 +34,7 @@ use Rattle.adjust.specs.Terms.{orderOf}
 use Rattle.adjust.proofs.Classes.{Row}
 use Rattle.rules.specs.declared.Run.{Run}
 use Rattle.rules.specs.Standing.{Standing, noRun, withStation, oneWay, bothWays, runFits, mostG, mostS, mostDifference}
-use Rattle.rules.specs.Rules.{station, stateTests, discrepancyWithin, refusal}
+use Rattle.rules.specs.Rules.{station, stateTests, countedLength, discrepancyWithin, refusal}
 use Rattle.rules.proofs.Tables.{fails}
 
 pub record Sized (u : Run) : Type 0 where
@@ -189,7 +189,7 @@ pub both-ways-fits : (t : Terms) → Row t → (number : ℤ) (out back : Run) �
     → discrepancyWithin (t .apart) (bothWays number out back) ≡ true → sectionFits (bothWays number out back) ≡ true
 both-ways-fits t r number out back h k few e =
     section-fits (bothWays number out back) (omega (arith, h .height, h .count, k .height, k .count, abs-sub (out .height) (back .height))) low high
-    (root-size (t .apart .a) (out .height +ℤ back .height) (t .apart .b) (out .sights +ℤ back .sights) mostD (r .some) e within-most)
+    (root-size (t .apart .a) (out .height +ℤ back .height) (t .apart .b) (countedLength (out .sights +ℤ back .sights)) mostD (r .some) e within-most)
   where
     low : pos 1 ≤ℤ (out .sights +ℤ back .sights)
     low = omega (ints, h .low, k .low, parts-add (out .sights) (back .sights))
@@ -197,10 +197,14 @@ both-ways-fits t r number out back h k few e =
     high : (out .sights +ℤ back .sights) ≤ℤ pos mostR
     high = omega (ints, h .high, h .count, k .high, k .count, parts-add (out .sights) (back .sights))
 
-    within-most : (pos (t .apart .b) *ℤ (out .sights +ℤ back .sights)) ≤ℤ pos (mostD * mostD)
+    counted-high : (l : ℤ) → l ≤ℤ pos mostR → countedLength l ≤ℤ pos mostR
+    counted-high l h = by-test (ltZ l (pos 2000)) (λ t. cond t (pos 2000) l ≤ℤ pos mostR) (λ t. omega ints) (λ t. h)
+
+    within-most : (pos (t .apart .b) *ℤ countedLength (out .sights +ℤ back .sights)) ≤ℤ pos (mostD * mostD)
     within-most =
-        let short : posPart (out .sights +ℤ back .sights) ≤ mostR = omega (ints, high, parts-abs (out .sights +ℤ back .sights)) in
-        omega (ints, r .apart, mul-le-mul-left (t .apart .b) short, parts-times (t .apart .b) (out .sights +ℤ back .sights))
+        let l : ℤ = countedLength (out .sights +ℤ back .sights) in
+        let short : posPart l ≤ mostR = omega (ints, counted-high (out .sights +ℤ back .sights) high, parts-abs l) in
+        omega (ints, r .apart, mul-le-mul-left (t .apart .b) short, parts-times (t .apart .b) l)
 
 -- ---- sections are narrow
 

@@ -1,7 +1,7 @@
--- The starred lines of document 01, 'Checked by hand', as one fact that the rules compute; and a spur (document 02, W-202) as another.
+-- The starred lines of document 01, 'Checked by hand', as one fact that the rules compute; a spur and short sections (document 02, W-202 and W-201) as others.
 use mathlib.Core.Path.{_≡_, refl}
 use mathlib.Core.List.{List, [], _∷_, _++_, map}
-use Prim.Native.Nat.{ℕ}
+use Prim.Native.Nat.{ℕ, _+_, _-_}
 use lib.IntN.{ℤ, pos, negℤ, _*ℤ_}
 use Rattle.roots.specs.Round.{roundEven}
 use Rattle.roots.specs.Limit.{isWithin}
@@ -201,4 +201,54 @@ spur-worked =
       loop = refl;
       fin-on-line = refl;
       order-3 = refl;
+    }
+
+-- ---- short sections
+
+-- a staff k with a sight of s dm, read h lower on the black face and g lower on the red
+abbrev sighted : ℕ → ℕ → ℕ → ℕ → List ℤ
+sighted k s h g = staff (1500 + s - h) (1500 - h) (1501 - h) (1501 + k - g)
+
+abbrev level : ℕ → ℕ → ℕ → Call
+level kb kf s = station (pos kb) (pos kf) (sighted kb s 0 0 ∷ sighted kf s 0 0 ∷ [])
+
+-- what the calls of a level section out and back answer: sights of s, the last one of t, whose staff is read lower. R is 7 s + t, D is h + g
+abbrev short : Call → ℕ → ℕ → ℕ → ℕ → List ℕ
+short opening s t h g =
+    refusals freshReading
+    (opening ∷ level 4787 4687 s ∷ level 4687 4787 s ∷ end-run (pos 2)
+    ∷ level 4687 4787 s ∷ station (pos 4787) (pos 4687) (sighted 4787 s 0 0 ∷ sighted 4687 t h g ∷ []) ∷ end-run (pos 1) ∷ [])
+
+abbrev third : Call
+third = open-line (pos 3) (pos 3) (pos 1) (pos 10000)
+
+abbrev spur : Call
+spur = open-spur (pos 4) (pos 3) (pos 1) (pos 10000)
+
+-- the end of the return is answered with n, all before it is taken
+abbrev ends : ℕ → List ℕ
+ends n = 0 ∷ 0 ∷ 0 ∷ 0 ∷ 0 ∷ 0 ∷ n ∷ []
+
+-- R 16, 1999 and 2000 have one limit of D: 7 at third order, 12 on a spur
+pub record ShortWorked : Type 0 where
+  pub third-16 : (short third 2 2 4 3 ≡ ends 0) × (short third 2 2 4 4 ≡ ends 32)
+  pub third-1999 : (short third 250 249 4 3 ≡ ends 0) × (short third 250 249 4 4 ≡ ends 32)
+  pub third-2000 : (short third 250 250 4 3 ≡ ends 0) × (short third 250 250 4 4 ≡ ends 32)
+  pub spur-16 : (short spur 2 2 6 6 ≡ ends 0) × (short spur 2 2 7 6 ≡ ends 32)
+  pub spur-1999 : (short spur 250 249 6 6 ≡ ends 0) × (short spur 250 249 7 6 ≡ ends 32)
+  pub spur-2000 : (short spur 250 250 6 6 ≡ ends 0) × (short spur 250 250 7 6 ≡ ends 32)
+  -- t keeps R itself
+  pub t-16 : (accidental (section 2 0 16 7) ≡ pos 1531250) × (accidental (section 2 0 16 12) ≡ pos 4500000)
+
+pub short-worked : ShortWorked
+unfolding roundEven isWithin
+short-worked =
+    record {
+      third-16 = (refl, refl);
+      third-1999 = (refl, refl);
+      third-2000 = (refl, refl);
+      spur-16 = (refl, refl);
+      spur-1999 = (refl, refl);
+      spur-2000 = (refl, refl);
+      t-16 = (refl, refl);
     }

@@ -1,12 +1,12 @@
 -- The rules: each call's tests, each beside its refusal number and in the order in which they are made, and what a call that is taken leaves
--- (document 01, 'Runs, sections and the standing list' and the two lists of refusals; for spurs document 02, W-202).
+-- (document 01, 'Runs, sections and the standing list' and the two lists of refusals; for spurs and short sections document 02, W-202 and W-201).
 use mathlib.Core.Bool.{Bool, true, false, not, cond, _&&_, _||_}
 use mathlib.Core.List.{List, [], _∷_, _++_}
 use Prim.Native.Nat.{ℕ, _*_, _%_}
 use lib.ListN.{length}
 use lib.Dec.{leb, eqb}
 use lib.IntN.{ℤ, pos}
-use lib.Signed.{leZ}
+use lib.Signed.{leZ, ltZ}
 use Rattle.numbers.specs.Whole.{between, eqZ}
 use Rattle.numbers.specs.Tables.{firstOf}
 use Rattle.roots.specs.Limit.{isWithin}
@@ -66,9 +66,13 @@ numberAllowed v number =
     cond (isReturn (v .line .waiting)) (eqZ number (began v))
     (not (onLine v number) && not (eqZ number (v .line .opening .start .number) && (isEmpty (v .sections) || not (termsOf (v .line .opening .class) .tied))))
 
+-- R as it counts for D, half dm: below 0.10 km as 0.10 km (document 02, W-201). The closure, the weights of the adjustment and t keep R itself
+abbrev pub countedLength : ℤ → ℤ
+countedLength r = cond (ltZ r (pos 2000)) (pos 2000) r
+
 -- D within a root of R
 abbrev pub discrepancyWithin : Root → Section → Bool
-discrepancyWithin root x = isWithin (root .a) (x .discrepancy) (root .b) (x .distance)
+discrepancyWithin root x = isWithin (root .a) (x .discrepancy) (root .b) (countedLength (x .distance))
 
 -- the longest line, or the longest loop, in half dm
 abbrev pub lengthLimit : Terms → Bool → ℤ

@@ -8,7 +8,7 @@ ghost use Rattle.rules.specs.Standing.{isShut, outwardOrReturn, bothWays
 ghost use Rattle.rules.specs.code.Seen.{numbersIn, beside};
 ghost use Rattle.rules.specs.code.Opened.{openRefusal};
 ghost use Rattle.rules.specs.code.Bounds.{SmallRuns};
-ghost use Rattle.rules.specs.Rules.{open-line, end-run, drop-run, open-spur, openTests, numberInRange, numberAllowed, discrepancyWithin, outOfTurn, stationTests, bookStationTests, stateTests, bookRefusal};
+ghost use Rattle.rules.specs.Rules.{open-line, end-run, drop-run, open-spur, openTests, numberInRange, numberAllowed, countedLength, discrepancyWithin, outOfTurn, stationTests, bookStationTests, stateTests, bookRefusal};
 use super::Line;
 use super::Run;
 use super::Waiting;
@@ -170,6 +170,13 @@ fn number_allowed(line: Line, count: usize, numbers: &[i64; 64], number: i64) ->
     !on_line(numbers, count, number) & !((number == start) & ((count == 0) | !terms.tied))
 }
 
+// R as it counts for D: below 0.10 km as 0.10 km.
+fn counted_length(r: i64) -> i64
+    ensures { λ x. ⌜ x ≡ countedLength r ⌝ }
+{
+    if r < 2000 { 2000 } else { r }
+}
+
 // Whether an outward run and its return, the present run, are too far apart.
 fn too_far(apart: Root, waiting: Waiting, present: Run) -> bool
     requires { ⌜ SmallRuns waiting present ⌝ }
@@ -181,7 +188,7 @@ fn too_far(apart: Root, waiting: Waiting, present: Run) -> bool
             apart.a,
             run.height + present.height,
             apart.b,
-            run.sights + present.sights,
+            counted_length(run.sights + present.sights),
         ),
     }
 }

@@ -3,14 +3,16 @@ use mathlib.Core.Path.{sym, ap, subst, _∙_}
 use mathlib.Core.Bool.{false, not}
 use Prim.Native.Nat.{_+_}
 use lib.IntN.{ℤ, _+ℤ_}
-use Rattle.numbers.proofs.Machine.{stored}
+use mir.Syntax.{w64}
+use mir.Val.{SFits}
+use Rattle.numbers.proofs.Machine.{stored, stored-id}
 use Rattle.numbers.proofs.Chain.{Value, known, add, fits, kept}
 use Rattle.roots.specs.Limit.{isWithin}
 use Rattle.rules.specs.declared.Run.{Run}
 use Rattle.rules.specs.declared.Waiting.{Waiting}
 use Rattle.rules.specs.code.Bounds.{SmallRun, SmallRuns}
 use Rattle.rules.specs.Standing.{outwardOrReturn, bothWays, mostG, mostS}
-use Rattle.rules.specs.Rules.{discrepancyWithin}
+use Rattle.rules.specs.Rules.{countedLength, discrepancyWithin}
 use borrow.Author.Needs.{needs}
 use Rattle.rules.proofs.refusals.too_far.Statement.{statement}
 use Rattle.rules.proofs.refusals.too_far.Tie as tie
@@ -39,8 +41,11 @@ sights w = add (known (run w .sights) (small w .0 .sights) tt) (known (w .before
 add-within : tie.Need-add-within
 add-within c = fits (height (c .before .before .before .before .before)) tt
 
-add-within-2 : tie.Need-add-within-2
-add-within-2 c = fits (sights (c .before .before .before .before .before .before .before .before .before)) tt
+add-counted-length : tie.Need-add-counted-length
+add-counted-length c = fits (sights (c .before .before .before .before .before .before .before .before .before)) tt
+
+counted-length-requires : tie.Need-counted-length-requires
+counted-length-requires c κs = search needs
 
 within-requires : tie.Need-within-requires
 within-requires c κs = search needs
@@ -50,10 +55,13 @@ returns c = search needs
 
 returns-2 : tie.Need-returns-2
 returns-2 c =
-    let w = c .before .before .before .before .before .before .before .before .before .before in
+    let l = c .before in
+    let w = l .before .before .before .before .before .before .before .before .before .before in
     let present = w .before .before .args .present in
     let apart = w .before .before .args .apart in
-    ap not (c .within .ensures ∙ (λ i. isWithin (apart .a) (kept (height w) tt .is i) (apart .b) (kept (sights w) tt .is i)))
+    let f : SFits w64 (l .counted-length .result) = record { sfits = l .counted-length .ok } in
+    let counted = stored-id f ∙ l .counted-length .ensures ∙ ap countedLength (kept (sights w) tt .is) in
+    ap not (c .within .ensures ∙ (λ i. isWithin (apart .a) (kept (height w) tt .is i) (apart .b) (counted i)))
     ∙ sym (ap (λ (x : Waiting). outwardOrReturn x false (λ number out. not (discrepancyWithin apart (bothWays number out present)))) (w .waiting .given .1))
 
 pub too-far-spec : {M : Type 1} → statement M
@@ -63,7 +71,8 @@ too-far-spec =
     enum-told
     enum-known-waiting
     add-within
-    add-within-2
+    add-counted-length
+    counted-length-requires
     within-requires
     returns
     returns-2)
