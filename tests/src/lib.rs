@@ -2,10 +2,11 @@
 //!
 //! The other implementation: `fraction`, `station`, `rules`, `plain`, `standing`, `closing`, `adjust`, `figures`, and for texts `text`, `write`, `report`.
 //! Inputs for comparisons: `random`, `lent`, `examples`, `opening`, `fixed`, for lists of calls `wished`, `caller`, `at_limits`, `mistakes`, `work`,
-//! `generate`, `mutate`, and for texts `damage`, `largest`.
+//! `generate`, `mutate`, and for texts `damage`, `largest`. Both implementations on one list of calls: `both`.
 
 pub mod adjust;
 pub mod at_limits;
+pub mod both;
 pub mod closing;
 pub mod damage;
 pub mod examples;

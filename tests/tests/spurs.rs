@@ -1,12 +1,12 @@
 //! Worked spurs (document 02, W-202): lists of calls, each run by the proved book and by the other implementation.
 
-use level_tests::figures::{figures_of, read, FIGURES};
+use level_tests::both::{after, figures, run};
 use level_tests::fixed::{run_of, section, station, FIRST, SECOND};
 use level_tests::opening::{closing_call, opening, usual};
 use level_tests::plain::{Call, Opened};
 use level_tests::report::reduce;
 use level_tests::rules::Class;
-use level_tests::write::{filled, numbers_of, text_of};
+use level_tests::write::{filled, text_of};
 
 /// So many sections with a D of 10, so that each t is 10,000, and a Q of 10.
 fn sections(n: i64) -> Vec<Call> {
@@ -27,31 +27,6 @@ fn fin(number: i64) -> Call {
 
 fn close(number: i64, height: i64) -> Call {
     Call::CloseLine { number, height }
-}
-
-/// The answers, and the figures of the book at the end; both implementations have the same.
-fn run(calls: &[Call]) -> (Vec<u8>, Vec<i64>) {
-    let list: Vec<i64> = calls.iter().flat_map(|call| [numbers_of(call), vec![0; 11]].concat().into_iter().take(11)).collect();
-    let (mut numbers, mut figures) = (vec![99; calls.len()], vec![-1; FIGURES]);
-    assert_eq!(levelbook::run(&list, &mut numbers, &mut figures), calls.len());
-    let (expected, reading, closed) = read(calls);
-    assert_eq!((&numbers, &figures), (&expected, &figures_of(&reading, &closed)), "{calls:?}");
-    (numbers, figures)
-}
-
-/// The answers of the calls that follow others, which are all taken.
-fn after(before: &[Call], calls: &[Call]) -> Vec<u8> {
-    let (numbers, _) = run(&[before, calls].concat());
-    let (taken, rest) = numbers.split_at(before.len());
-    assert!(taken.iter().all(|&number| number == 0), "{taken:?}");
-    rest.to_vec()
-}
-
-/// The figures after calls that are all taken.
-fn figures(calls: &[Call]) -> Vec<i64> {
-    let (numbers, figures) = run(calls);
-    assert_eq!(numbers, vec![0; calls.len()]);
-    figures
 }
 
 /// Heights are start plus running Q: 10002.5, 10005 and 10007.5 from 10000; a tie goes to the even one. A correction is what the printed heights have more
