@@ -2,6 +2,7 @@
 //! figures that fall on a tie.
 
 use crate::caller::{Goal, Caller};
+use crate::fraction::narrow;
 use crate::rules::{self, Class};
 
 /// The largest number from 0 on for which a rule still holds.
@@ -31,7 +32,29 @@ impl Caller<'_> {
         if outward || (plain && !self.style.verdict) {
             return usual;
         }
-        self.sum_to_square(usual, (4 * stations, most))
+        let short = self.sum_about_the_shortest().filter(|sum| (4 * stations..=most).contains(sum));
+        short.unwrap_or_else(|| self.sum_to_square(usual, (4 * stations, most)))
+    }
+
+    /// One in three returns: the sum for an R about the one that a shorter one counts as for D
+    /// (document 02, W-201), and about the one where D's limit first rises above that one's.
+    fn sum_about_the_shortest(&mut self) -> Option<i64> {
+        let due = self.class().goes_both_ways() && !self.style.verdict && self.random.chance(1, 3);
+        if !due {
+            return None;
+        }
+        let shortest = narrow(rules::SHORTEST_FOR_D);
+        let limit = largest(|d| self.agrees(d, shortest));
+        let rises = shortest + largest(|more| !self.agrees(limit + 1, shortest + more)) + 1;
+        let r = match self.random.below(6) {
+            0 => shortest - 1,
+            1 => shortest,
+            2 => rises - 1,
+            3 => rises,
+            _ => self.random.between(shortest / 2, rises),
+        };
+        let (_, outward) = self.waiting_sums();
+        Some(r - outward)
     }
 
     /// The sum that brings the line to the length set for this section; an

@@ -16,7 +16,8 @@ pub enum Kind {
     Loop,
     /// About 20 sections out and back with T about its limit.
     Verdict,
-    /// About as many sections as a line may have, and some above.
+    /// About as many sections as a line may have, and some above; one in four with the shortest
+    /// sights.
     Many,
     /// A length at or beyond its limit, for a spur up to 500 km, runs of 200 stations.
     Long,
@@ -74,6 +75,10 @@ pub fn line(random: &mut Random, kind: Kind) -> Vec<Call> {
     caller.calls
 }
 
+/// The shortest sight in dm: the middle thread is between the upper and the lower one. Where all have it, each t is
+/// as large as it may be.
+const SHORTEST_SIGHT: i64 = 2;
+
 fn style(random: &mut Random, kind: Kind) -> Style {
     let class = *random.pick(match kind {
         Kind::Verdict | Kind::Steep => &[Class::Third, Class::Spur],
@@ -86,6 +91,7 @@ fn style(random: &mut Random, kind: Kind) -> Style {
         (Kind::Long, _) => most - 10,
         (Kind::Deep | Kind::Steep, _) => 12,
         (Kind::Verdict, _) => random.between(60, 400),
+        (Kind::Many, 0) => SHORTEST_SIGHT,
         (_, 0) => random.between(2, 20),
         (_, 1) => random.between(most - 40, most),
         _ => random.between(20, 400),
@@ -101,7 +107,7 @@ fn style(random: &mut Random, kind: Kind) -> Style {
         instrument,
         sight,
         relief: *random.pick(&[0, 10, 100, 400, 1_500]),
-        equal: kind != Kind::Verdict && random.chance(1, 4),
+        equal: kind != Kind::Verdict && (sight == SHORTEST_SIGHT || random.chance(1, 4)),
         verdict: kind == Kind::Verdict,
         trouble,
     }

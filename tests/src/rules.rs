@@ -8,6 +8,9 @@ pub const STATIONS_OF_A_RUN: usize = 200;
 /// A line holds at most this many sections (document 01, refusal 31).
 pub const SECTIONS_OF_A_LINE: usize = 64;
 
+/// For D a shorter R, in half dm, counts as this one (document 02, W-201).
+pub const SHORTEST_FOR_D: i128 = 2_000;
+
 /// Limits on a station, all inclusive, on absolute values
 /// (document 01, "The station").
 #[derive(Clone, Debug, PartialEq, Eq)]
@@ -42,8 +45,8 @@ pub enum Class {
     Spur,
 }
 
-/// Sections out and back: D (half mm) keeps a D^2 <= b R with these a and b, R in half dm;
-/// T's limit for each section in hundredths of mm^2 per km.
+/// Sections out and back: D (half mm) keeps a D^2 <= b R with these a and b, R in half dm
+/// and at least `SHORTEST_FOR_D`; T's limit for each section in hundredths of mm^2 per km.
 #[derive(Clone, Debug, PartialEq, Eq)]
 pub struct BothWays {
     pub agree: (i128, i128),
@@ -133,7 +136,8 @@ pub fn height_allowed(height: i64) -> bool {
 
 /// Whether out and back agree; without a return nothing can disagree.
 pub fn double_run_agrees(class: Class, d: i128, r: i128) -> bool {
-    class.terms().both_ways.is_none_or(|set| within(set.agree.0, d, set.agree.1, r))
+    let counted = r.max(SHORTEST_FOR_D);
+    class.terms().both_ways.is_none_or(|set| within(set.agree.0, d, set.agree.1, counted))
 }
 
 /// Whether W is within its limit; a spur has none.
