@@ -85,6 +85,7 @@ fn twenty_thousand_books() {
     let mut random = Random::new(20_261_117);
     let mut refusals = BTreeMap::<i64, u64>::new();
     let mut verdicts = BTreeMap::<(bool, i64), u64>::new();
+    let mut large = 0;
     for _ in 0..20_000 {
         let mut text = text_book(&mut random);
         if random.chance(1, 8) {
@@ -97,18 +98,22 @@ fn twenty_thousand_books() {
         for line in report.chunks(LINE) {
             match &line[..3] {
                 b"REF" => *refusals.entry(field(line, 1)).or_default() += 1,
-                b"CLO" => *verdicts.entry((spur, field(line, 4))).or_default() += 1,
+                b"CLO" => {
+                    *verdicts.entry((spur, field(line, 4))).or_default() += 1;
+                    large += u64::from(field(line, 3) == 99_999_999);
+                }
                 _ => {}
             }
         }
     }
     println!("spur first  verdict  closed");
     verdicts.iter().for_each(|((spur, verdict), count)| println!("{spur:10} {verdict:8} {count:7}"));
-    println!("refusal  text lines");
+    println!("{large} with a T above 99,999,999\nrefusal  text lines");
     (1..=41).for_each(|number| println!("{number:7} {:11}", refusals.get(&number).unwrap_or(&0)));
     assert!(refusals.keys().copied().eq((1..=8).chain(21..=36).chain([41])), "{refusals:?}");
     assert!(refusals[&41] >= 500, "too few of 41: {refusals:?}");
     assert_eq!(verdicts.len(), 6, "each verdict of lines and of spurs: {verdicts:?}");
+    assert!(large >= 10, "too few of a large T: {large}");
 }
 
 #[test]

@@ -149,7 +149,7 @@ fn a_low_height_takes_sixteen_columns() {
     assert_eq!(report(&[(7, 36)], 3, Some(&closing)), expected);
 }
 
-/// No list of calls leads there yet: 25 D² ≤ 2 R keeps a section's t to 40,000 on a spur, 625 D² ≤ 18 R to 14,400 at third order.
+/// A spur of short sections leads there (short_sections.rs), a third-order line does not.
 #[test]
 fn a_large_t_is_printed_as_eight_nines() {
     let points = vec![Point { number: 12, distance: 0, correction: 0, height: 5 }];
