@@ -23,11 +23,12 @@ pub struct Benchmark {
     pub height: i64,
 }
 
-// What a line is opened with.
+// What a line is opened with, and whether its level's collimation was tested since.
 pub struct Opening {
     pub class: Class,
     pub instrument: Instrument,
     pub start: Benchmark,
+    pub collimated: bool,
 }
 
 // A finished section: the benchmark that it ends on, its height difference Q in quarter mm, its distance R in half dm, and the discrepancy D

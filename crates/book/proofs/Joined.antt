@@ -26,7 +26,7 @@ use Rattle.rules.specs.declared.Book.{Book}
 use Rattle.rules.specs.declared.Waiting.{Waiting}
 use Rattle.rules.specs.declared.Waiting.the-variants.{Nothing, Outward}
 use Rattle.rules.specs.Standing.{Standing, standingOf, bookWith, isFresh, isEmpty, isReturn, outwardOrReturn, noRun, oneWay, bothWays}
-use Rattle.rules.specs.Rules.{Call, open-line, station, end-run, drop-run, drop-section, close-line, open-spur, close-spur, withRuns, withSection, bookRefusal, taken}
+use Rattle.rules.specs.Rules.{Call, open-line, station, end-run, drop-run, drop-section, close-line, open-spur, close-spur, collimation, withRuns, withSection, bookRefusal, taken}
 use Rattle.rules.proofs.Tables.{book-fails, line-whole}
 use Rattle.rules.proofs.Unbroken.{SmallWaiting, Unbroken, unbroken, fresh-none}
 use Rattle.rules.proofs.Looked.{counted-broken}
@@ -127,6 +127,7 @@ module _ (b : Book) (w : Whole (b .sections)) where
       let c = open-spur order instrument number height in
       let fresh = not-false (isFresh (b .line .stage)) (book-fails (standingOf b) c e 21) in
       line-alone (taken (standingOf b) c) (whole-line b c e .few) (fresh-none (b .line) ss (line-whole (standingOf b) c e) fresh)
+  effect (collimation x) e = line-alone (taken (standingOf b) (collimation x)) (whole-line b (collimation x) e .few) refl
   effect (close-spur number) e = line-alone (taken (standingOf b) (close-spur number)) (whole-line b (close-spur number) e .few) refl
   effect (close-line number end) e = line-alone (taken (standingOf b) (close-line number end)) (whole-line b (close-line number end) e .few) refl
 

@@ -1,7 +1,7 @@
 -- The calls of a book: what each answers and leaves. Of every call one equation: the number that `bookRefusal` gives; the book as the rules' effect leaves it where
 -- that is 0, and the very book where it is not.
 use mathlib.Core.Path.{_≡_}
-use mathlib.Core.Bool.{cond}
+use mathlib.Core.Bool.{false, cond}
 use mathlib.Core.List.{List, [], _∷_, map}
 use Prim.Native.Nat.{ℕ, _+_}
 use lib.ListN.{take}
@@ -34,7 +34,7 @@ freshBook =
       line =
           record {
             stage = Fresh;
-            opening = record { class = Fourth; instrument = Ds3; start = record { number = pos 0; height = pos 0 } };
+            opening = record { class = Fourth; instrument = Ds3; start = record { number = pos 0; height = pos 0 }; collimated = false };
             end = pos 0;
             waiting = Nothing;
             present = noRun;

@@ -1,7 +1,7 @@
 // The calls of a book. Each gives its answer and the book after it; a refused call leaves the very book.
 ghost use mathlib.Core.Path.{_≡_};
 ghost use Rattle.adjust.specs.Call.{answerOf};
-ghost use Rattle.rules.specs.Rules.{open-line, station, end-run, drop-run, drop-section, close-line, open-spur, close-spur};
+ghost use Rattle.rules.specs.Rules.{open-line, station, end-run, drop-run, drop-section, close-line, open-spur, close-spur, collimation};
 ghost use mathlib.Core.Bool.{true};
 ghost use mathlib.Core.List.{[]};
 ghost use Rattle.numbers.specs.Whole.{filled};
@@ -18,6 +18,7 @@ use super::CloseOutcome;
 use super::ClosedFigures;
 use super::Outcome;
 use super::Step;
+use super::decisions::collimation_change;
 use super::decisions::decide;
 use super::decisions::station_change;
 use super::storing::change;
@@ -91,6 +92,14 @@ pub fn open_spur(b: Book, order: i64, instrument: i64, number: i64, height: i64)
 {
     let v = [order, instrument, number, height, 0, 0, 0, 0, 0, 0];
     outcome_of(take(b, Tag::Spr, v))
+}
+
+// The collimation test of the level: A1, B1, A2, B2, each the sum of four readings, and the distances D1 and D2, all in mm.
+pub fn collimation(b: Book, x: [i64; 6]) -> Outcome
+    ensures { λ r. ⌜ Answers b (collimation x) r ⌝ }
+{
+    let c = collimation_change(b.line, b.sections.count, x);
+    outcome_of(step_of(b, c))
 }
 
 // A station: the constants and the readings, back and fore.

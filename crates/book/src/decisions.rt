@@ -1,15 +1,16 @@
 // What each call makes of a line and the lists of its sections, which are lent: its refusal, or its effect on the line and the section that it finishes.
 ghost use mathlib.Core.Path.{_≡_};
-ghost use Rattle.records.specs.declared.Tag.the-variants.{Sta};
+ghost use Rattle.records.specs.declared.Tag.the-variants.{Sta, Ang};
 ghost use Rattle.rules.specs.Standing.{bookIn, standingIn};
 ghost use Rattle.rules.specs.code.Seen.{numbersIn, beside};
-ghost use Rattle.rules.specs.Rules.{open-line, station, end-run, drop-run, drop-section, close-line, open-spur, close-spur, bookRefusal};
+ghost use Rattle.rules.specs.Rules.{open-line, station, end-run, drop-run, drop-section, close-line, open-spur, close-spur, collimation, bookRefusal};
 ghost use Rattle.rules.specs.Records.{callOf};
 ghost use Rattle.book.specs.code.Changes.{lineOnly, lineChange, changeBy, changeOf};
 use super::Change;
 use super::effects::begun;
 use super::effects::class_of;
 use super::effects::closed;
+use super::effects::collimated;
 use super::effects::opening_of;
 use super::effects::run_dropped;
 use super::effects::run_ended;
@@ -21,6 +22,7 @@ use records::Tag;
 use rules::Line;
 use rules::closing::close_refusal;
 use rules::closing::close_spur_refusal;
+use rules::refusals::collimation_refusal;
 use rules::refusals::drop_refusal;
 use rules::refusals::end_refusal;
 use rules::refusals::open_refusal;
@@ -122,6 +124,19 @@ fn station_record(line: Line, count: usize, numbers: &[i64; 64], v: [i64; 10]) -
     let back = [v[1], v[2], v[3], v[4]];
     let fore = [v[6], v[7], v[8], v[9]];
     station_change(line, count, numbers, v[0], v[5], [back, fore])
+}
+
+pub(crate) fn collimation_change(line: Line, count: usize, x: [i64; 6]) -> Change
+    ensures { λ r. ⌜ r ≡ changeBy (bookRefusal (beside line count) (collimation x)) line (collimation x) ⌝ }
+{
+    line_change(collimation_refusal(line, count, x), line, collimated(line))
+}
+
+// Its record: the first six numbers.
+fn collimation_record(line: Line, count: usize, v: [i64; 10]) -> Change
+    ensures { λ r. ⌜ r ≡ changeBy (bookRefusal (beside line count) (callOf Ang v)) line (callOf Ang v) ⌝ }
+{
+    collimation_change(line, count, [v[0], v[1], v[2], v[3], v[4], v[5]])
 }
 
 fn end_change(line: Line, count: usize, numbers: &[i64; 64], number: i64) -> Change
@@ -233,5 +248,6 @@ pub fn decide<'a>(
             discrepancies,
             v[0],
         ),
+        Tag::Ang => collimation_record(line, count, v),
     }
 }

@@ -4,7 +4,7 @@ ghost use mathlib.Core.Bool.{true};
 ghost use Rattle.station.specs.code.Bounds.{Small};
 ghost use Rattle.rules.specs.declared.Waiting.the-variants.{Nothing};
 ghost use Rattle.rules.specs.Standing.{noRun, withStation, oneWay, bothWays};
-ghost use Rattle.rules.specs.Rules.{end-run, classOf, instrumentOf, openingOf, withRuns, closedAt};
+ghost use Rattle.rules.specs.Rules.{end-run, classOf, instrumentOf, openingOf, withOpening, withRuns, closedAt};
 ghost use Rattle.rules.specs.Rules as Rules;
 ghost use Rattle.rules.specs.code.Bounds.{SmallRun, SmallRuns};
 ghost use Rattle.book.specs.code.Changes.{effectOf};
@@ -78,6 +78,7 @@ pub(crate) fn opening_of(class: Class, instrument: i64, number: i64, height: i64
         class: class,
         instrument: instrument_of(instrument),
         start: start,
+        collimated: false,
     }
 }
 
@@ -91,6 +92,25 @@ pub(crate) fn begun(opening: Opening) -> Line
         end: 0,
         waiting: Waiting::Nothing,
         present: no_run(),
+    }
+}
+
+// ---- the collimation test
+
+pub(crate) fn collimated(line: Line) -> Line
+    ensures { λ r. ⌜ r ≡ withOpening line (Rules.collimated (line .opening)) ⌝ }
+{
+    let mut opening = line.opening;
+    opening.collimated = true;
+    let stage = line.stage;
+    let waiting = line.waiting;
+    let present = line.present;
+    Line {
+        stage: stage,
+        opening: opening,
+        end: line.end,
+        waiting: waiting,
+        present: present,
     }
 }
 

@@ -80,6 +80,7 @@ pub fn fresh() -> Book
         class: Class::Fourth,
         instrument: Instrument::Ds3,
         start: start,
+        collimated: false,
     };
     let line = Line {
         stage: Stage::Fresh,

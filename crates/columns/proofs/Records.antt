@@ -88,6 +88,7 @@ tag-facts Tag.Drs = record { ten = lit≤ tt; three = refl; back = refl }
 tag-facts Tag.End = record { ten = lit≤ tt; three = refl; back = refl }
 tag-facts Tag.Spr = record { ten = lit≤ tt; three = refl; back = refl }
 tag-facts Tag.Fin = record { ten = lit≤ tt; three = refl; back = refl }
+tag-facts Tag.Ang = record { ten = lit≤ tt; three = refl; back = refl }
 
 -- any other letters are refused with 1
 other-tag : (ts : List Tag) (w : List ℕ) (k : ℕ) → tagAmong ts w ≡ Refused k → k ≡ 1

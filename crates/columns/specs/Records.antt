@@ -11,7 +11,7 @@ use Rattle.numbers.specs.Whole.{putAt}
 use Rattle.columns.specs.declared.reader.Field.{Field}
 use Rattle.columns.specs.declared.reader.Field.the-variants.{Number, Bad}
 use Rattle.records.specs.declared.Tag.{Tag}
-use Rattle.records.specs.declared.Tag.the-variants.{Lin, Sta, Run, Drr, Drs, End, Spr, Fin}
+use Rattle.records.specs.declared.Tag.the-variants.{Lin, Sta, Run, Drr, Drs, End, Spr, Fin, Ang}
 use Rattle.records.specs.declared.Kind.{Kind}
 use Rattle.records.specs.declared.Kind.the-variants.{Record, Refused}
 use Rattle.columns.specs.declared.reader.TextLine.{TextLine}
@@ -30,6 +30,7 @@ letters Drs = 68 ∷ 82 ∷ 83 ∷ []
 letters End = 69 ∷ 78 ∷ 68 ∷ []
 letters Spr = 83 ∷ 80 ∷ 82 ∷ []
 letters Fin = 70 ∷ 73 ∷ 78 ∷ []
+letters Ang = 65 ∷ 78 ∷ 71 ∷ []
 
 -- how many numbers follow a tag
 abbrev pub fieldCount : Tag → ℕ
@@ -41,9 +42,10 @@ fieldCount Drs = 0
 fieldCount End = 2
 fieldCount Spr = 4
 fieldCount Fin = 1
+fieldCount Ang = 6
 
 abbrev pub tags : List Tag
-tags = Lin ∷ Sta ∷ Run ∷ Drr ∷ Drs ∷ End ∷ Spr ∷ Fin ∷ []
+tags = Lin ∷ Sta ∷ Run ∷ Drr ∷ Drs ∷ End ∷ Spr ∷ Fin ∷ Ang ∷ []
 
 -- the first of these tags with the letters w; any other letters are refused with 1
 unfoldable pub tagAmong : List Tag → List ℕ → Kind

@@ -147,6 +147,7 @@ fn field_count(tag: Tag) -> usize
         Tag::End => 2,
         Tag::Spr => 4,
         Tag::Fin => 1,
+        Tag::Ang => 6,
     }
 }
 
@@ -166,6 +167,7 @@ fn find_tag(w: &[u8]) -> Kind
     ensures { λ r. ⌜ r ≡ tagAmong tags (now (w .entry)) ⌝ }
 {
     let mut kind = Kind::Refused(1);
+    kind = tag_or(w, b"ANG", Tag::Ang, kind);
     kind = tag_or(w, b"FIN", Tag::Fin, kind);
     kind = tag_or(w, b"SPR", Tag::Spr, kind);
     kind = tag_or(w, b"END", Tag::End, kind);

@@ -15,7 +15,7 @@ use Rattle.station.specs.Station.{stationOf}
 use Rattle.rules.specs.declared.Stage.{Stage}
 use Rattle.rules.specs.declared.Stage.the-variants.{Fresh, Open, Closed}
 use Rattle.rules.specs.Standing.{isOpen}
-use Rattle.rules.specs.Rules.{Call, open-line, station, end-run, drop-run, drop-section, close-line, open-spur, close-spur}
+use Rattle.rules.specs.Rules.{Call, open-line, station, end-run, drop-run, drop-section, close-line, open-spur, close-spur, collimation}
 use Rattle.ledger.specs.Plain.{Reading, Awaited, refusal, taken, runEnded, standing}
 use Rattle.ledger.specs.Entries.{Entry, asks, refused, entryRefusal, entryNext}
 use Rattle.rules.proofs.Tables.{fails}
@@ -65,6 +65,7 @@ taken-least r (close-line number end) e =
     let opened = not-false (isOpen (r .stage)) (fails (standing r) (close-line number end) e 21) in
     omega (arith, open-lines (r .stage) opened)
 taken-least r (open-spur order instrument number height) e = omega arith
+taken-least r (collimation x) e = omega arith
 taken-least r (close-spur number) e =
     let opened = not-false (isOpen (r .stage)) (fails (standing r) (close-spur number) e 21) in
     omega (arith, open-lines (r .stage) opened)

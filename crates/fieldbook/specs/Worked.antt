@@ -11,6 +11,7 @@ use Rattle.records.specs.declared.Tag.{Tag}
 use Rattle.records.specs.declared.Tag.the-variants.{Lin, Sta, Run, End}
 use Rattle.roots.specs.Round.{roundEven}
 use Rattle.roots.specs.Limit.{isWithin}
+use Rattle.collimation.specs.Collimation.{withinAngle}
 use Rattle.columns.specs.Decimals.{blanks, digitsBy, digits, decimal, fitsIn, pad, same, valueOf, hasMinus, candidate, fieldOf}
 use Rattle.columns.specs.Lines.{lineEnd, lineWith, widthOf, fields, allFit, columnsOf, lineFits, tagLine, isWide, heading, title}
 use Rattle.columns.specs.Records.{tagAmong, allNumbers, numbersIn, numbersLine, recordIn, lineIn}
@@ -27,6 +28,7 @@ abbrev pub bookA : String
 bookA =
     "LEVEL BOOK                                                                         \n"
     ++ "LIN       4       3       1   10000                                                \n"
+    ++ "ANG    5937    5951    6043    6067    6800   40300                                \n"
     ++ "STA    4787    1571    1197    1384    6171    4687     739     363     551    5239\n"
     ++ "STA    4687    1965    1700    1832    6519    4787    2141    1874    2007    6793\n"
     ++ "RUN       2                                                                        \n"
@@ -44,7 +46,7 @@ reportA =
     ++ "PNT       3    4164      -4   11206                                                \n"
 
 pub case-a : report (bytesOf bookA) ≡ bytesOf reportA
-unfolding report linesBy lines joined lineIn recordIn numbersLine tagAmong allNumbers numbersIn putAt heading title lineWith lineEnd fieldOf candidate hasMinus valueOf same pad decimal digits digitsBy blanks tagLine lineFits columnsOf allFit widthOf fitsIn fields isWide refusalsFrom roundEven isWithin
+unfolding report linesBy lines joined lineIn recordIn numbersLine tagAmong allNumbers numbersIn putAt heading title lineWith lineEnd fieldOf candidate hasMinus valueOf same pad decimal digits digitsBy blanks tagLine lineFits columnsOf allFit widthOf fitsIn fields isWide refusalsFrom roundEven isWithin withinAngle
 case-a = refl
 
 -- T in CLO, up to eight digits and beyond

@@ -21,7 +21,7 @@ use Rattle.adjust.proofs.Lines.{line-sound, line-near, raw-heights}
 use Rattle.rules.specs.declared.Stage.{Stage}
 use Rattle.rules.specs.declared.Stage.the-variants.{Closed}
 use Rattle.rules.specs.Standing.{Standing}
-use Rattle.rules.specs.Rules.{Call, open-line, station, end-run, drop-run, drop-section, close-line, open-spur, close-spur, isClosing, inputTests}
+use Rattle.rules.specs.Rules.{Call, open-line, station, end-run, drop-run, drop-section, close-line, open-spur, close-spur, collimation, isClosing, inputTests}
 use Rattle.ledger.specs.Plain.{Reading, Awaited, freshReading, after, next, taken, refusal, standing, runEnded, refusals, figuresOf, given, closings}
 use Rattle.ledger.specs.Claims.{others, Ends, SoundClosing, SpurHeights, ClosedBy, by-end, by-fin, EveryList, takenOnly, StruckOut}
 use Rattle.rules.proofs.Tables.{fails}
@@ -47,6 +47,7 @@ module _ (r : Reading) (e : r .stage ≡ Closed) where
       go (close-line n h) = met (inputTests (close-line n h)) 21 refl refl
       go (open-spur o i n h) = met (inputTests (open-spur o i n h)) 21 refl refl
       go (close-spur n) = met (inputTests (close-spur n)) 21 refl refl
+      go (collimation x) = met (inputTests (collimation x)) 21 refl refl
 
   shut-stays : (cs : List Call) → after r cs ≡ r
   shut-stays [] = refl
@@ -68,6 +69,7 @@ closes-line r drop-section e = no-true e
 closes-line r (close-line m h) e = refl
 closes-line r (open-spur o i m h) e = no-true e
 closes-line r (close-spur m) e = refl
+closes-line r (collimation x) e = no-true e
 
 -- ---- a line that is closed in the end was closed once
 
@@ -122,6 +124,7 @@ stays-open r drop-section e n = n
 stays-open r (close-line m h) e n = no-true (sym e)
 stays-open r (open-spur o i m h) e n = open-not-closed
 stays-open r (close-spur m) e n = no-true (sym e)
+stays-open r (collimation x) e n = n
 
 pub either : {A : Type 0} (t : Bool) {x y : A} → x ≡ y → cond t x y ≡ y
 either true e = e
@@ -215,6 +218,7 @@ closed-by r drop-run k e = no-true k
 closed-by r drop-section k e = no-true k
 closed-by r (close-line m h) k e = by-end m h (not-false (termsOf (r .opening .class) .tied) (fails (standing r) (close-line m h) e 41))
 closed-by r (open-spur o i m h) k e = no-true k
+closed-by r (collimation x) k e = no-true k
 closed-by r (close-spur m) k e = by-fin m (fails (standing r) (close-spur m) e 41)
 
 pub every-list : EveryList

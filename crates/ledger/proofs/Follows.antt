@@ -12,7 +12,7 @@ use Rattle.adjust.specs.declared.Section.{Section}
 use Rattle.rules.specs.declared.Waiting.the-variants.{Nothing}
 use Rattle.rules.specs.Standing.{Standing, noRun, withStation}
 use Rattle.rules.specs.Rules as Rules
-use Rattle.rules.specs.Rules.{Call, open-line, station, end-run, drop-run, drop-section, close-line, open-spur, close-spur, withRuns, withSection}
+use Rattle.rules.specs.Rules.{Call, open-line, station, end-run, drop-run, drop-section, close-line, open-spur, close-spur, collimation, withRuns, withSection}
 use Rattle.ledger.specs.Plain as Plain
 use Rattle.ledger.specs.Plain.{Reading, Levelled, Awaited, runOf, sectionOf, standing, withLists}
 
@@ -22,7 +22,7 @@ abbrev pub recast : Reading → Class → Option Awaited → Reading
 recast r class waiting =
     record {
       stage = r .stage;
-      opening = record { class = class; instrument = r .opening .instrument; start = r .opening .start };
+      opening = record { class = class; instrument = r .opening .instrument; start = r .opening .start; collimated = r .opening .collimated };
       end = r .end;
       sections = r .sections;
       waiting = waiting;
@@ -77,3 +77,4 @@ follows r drop-section = refl
 follows r (close-line number end) = refl
 follows r (open-spur order instrument number height) = refl
 follows r (close-spur number) = refl
+follows r (collimation x) = refl

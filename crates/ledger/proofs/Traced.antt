@@ -30,7 +30,7 @@ use Rattle.book.specs.declared.CloseAnswer.the-variants.{Closed, NotClosed}
 use Rattle.book.specs.declared.ClosedFigures.{ClosedFigures}
 use Rattle.book.specs.declared.CloseOutcome.{CloseOutcome}
 use Rattle.rules.specs.Standing.{Standing, standingOf, bookWith}
-use Rattle.rules.specs.Rules.{Call, open-line, station, end-run, drop-run, drop-section, close-line, open-spur, close-spur, isClosing, bookRefusal}
+use Rattle.rules.specs.Rules.{Call, open-line, station, end-run, drop-run, drop-section, close-line, open-spur, close-spur, collimation, isClosing, bookRefusal}
 use Rattle.rules.specs.Records.{callOf}
 use Rattle.rules.specs.Rules as Rules
 use Rattle.rules.proofs.Tables.{tests, tables}
@@ -98,6 +98,7 @@ meant b drop-section = record { answers = λ o h. (refl, h); closes = λ o h. ab
 meant b (close-line number end) = record { answers = λ o h. absurd h; closes = λ o h. (refl, h); made = inr (λ o h. h) }
 meant b (open-spur order instrument number height) = record { answers = λ o h. (refl, h); closes = λ o h. absurd h; made = inl (λ o h. h) }
 meant b (close-spur number) = record { answers = λ o h. absurd h; closes = λ o h. (refl, h); made = inr (λ o h. h) }
+meant b (collimation x) = record { answers = λ o h. (refl, h); closes = λ o h. absurd h; made = inl (λ o h. h) }
 
 -- a call that is no closing gives nothing beside
 none-beside : (r : Reading) (c : Call) → isClosing c ≡ false → given r c ≡ []

@@ -32,7 +32,7 @@ use Rattle.rules.specs.declared.Line.{Line}
 use Rattle.rules.specs.declared.Waiting.{Waiting}
 use Rattle.rules.specs.declared.Waiting.the-variants.{Nothing, Outward}
 use Rattle.rules.specs.Standing.{Standing, isFresh, isOpen, isClosed, isShut, isEmpty, isReturn, outwardOrReturn, noRun, oneWay, bothWays, waitingBroken, misplaced, lineBroken}
-use Rattle.rules.specs.Rules.{Call, open-line, station, end-run, drop-run, drop-section, close-line, open-spur, close-spur, isClosing, broken, inputTests, stateTests, refusal, bookRefusal, numberInRange, discrepancyWithin, classOf, openingOf, begun, closedAt, withRuns, withSection, runEnded, taken}
+use Rattle.rules.specs.Rules.{Call, open-line, station, end-run, drop-run, drop-section, close-line, open-spur, close-spur, collimation, isClosing, broken, inputTests, stateTests, refusal, bookRefusal, numberInRange, discrepancyWithin, classOf, openingOf, begun, closedAt, withRuns, withSection, runEnded, taken}
 use Rattle.rules.proofs.Tables.{fails}
 use Rattle.ledger.specs.Plain as Plain
 use Rattle.ledger.specs.Plain.{Reading, freshReading, after, next, standing}
@@ -242,6 +242,19 @@ taken-kept v (close-line number end) i e =
 taken-kept v (open-spur order instrument number height) i e =
     let test = fails v (open-spur order instrument number height) e in opened-kept (openingOf Spur instrument number height) (test 4) (test 5)
 taken-kept v (close-spur number) i e = closed-kept v (pos 0) i refl (fails v (close-spur number) e 33)
+taken-kept v (collimation x) i e =
+    record {
+      few = i .few;
+      fit = i .fit;
+      present = i .present;
+      waiting = i .waiting;
+      start = i .start;
+      end = i .end;
+      closed = i .closed;
+      placed = i .placed;
+      number = i .number;
+      narrow-sections = i .narrow-sections;
+    }
 
 -- ---- no call shortens the list of sections: one that opens a line finds none
 
@@ -275,6 +288,7 @@ no-shorter v (close-line number end) i e = le-refl (length (v .sections))
 no-shorter v (open-spur order instrument number height) i e =
     omega (arith, fresh-none v i (not-false (isFresh (v .line .stage)) (fails v (open-spur order instrument number height) e 21)))
 no-shorter v (close-spur number) i e = le-refl (length (v .sections))
+no-shorter v (collimation x) i e = le-refl (length (v .sections))
 
 -- ---- a list of calls
 

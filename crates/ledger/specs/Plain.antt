@@ -1,6 +1,6 @@
 -- Document 01's 'plain reading' of a list of calls: it keeps lists of stations and no sum, and judges each call by the rules read over these lists.
 -- Its 'standing list' is what a `Reading` keeps: the finished sections, the outward list that waits and the list of the present run.
-use mathlib.Core.Bool.{cond}
+use mathlib.Core.Bool.{false, cond}
 use mathlib.Core.List.{List, [], _∷_, _++_, map}
 use mathlib.Core.Option.{Option, none, some}
 use Prim.Native.Nat.{ℕ}
@@ -22,7 +22,7 @@ use Rattle.rules.specs.declared.Waiting.{Waiting}
 use Rattle.rules.specs.declared.Waiting.the-variants.{Nothing, Outward}
 use Rattle.rules.specs.Standing.{Standing, oneWay, bothWays}
 use Rattle.rules.specs.Rules as Rules
-use Rattle.rules.specs.Rules.{Call, open-line, station, end-run, drop-run, drop-section, close-line, open-spur, close-spur, classOf, openingOf, isClosing}
+use Rattle.rules.specs.Rules.{Call, open-line, station, end-run, drop-run, drop-section, close-line, open-spur, close-spur, collimation, classOf, openingOf, collimated, isClosing}
 
 -- a finished section: its number, its outward list and, where it was levelled both ways, its return list
 pub record Levelled : Type 0 where
@@ -120,6 +120,17 @@ opened o =
       present = [];
     }
 
+abbrev pub withOpening : Reading → Opening → Reading
+withOpening r o =
+    record {
+      stage = r .stage;
+      opening = o;
+      end = r .end;
+      sections = r .sections;
+      waiting = r .waiting;
+      present = r .present;
+    }
+
 abbrev pub closedOn : Reading → ℤ → Reading
 closedOn r end =
     record {
@@ -141,6 +152,7 @@ taken r (close-line number end) = closedOn r end
 taken r (open-spur order instrument number height) = opened (openingOf Spur instrument number height)
 -- a spur has no end height: 0 stands for it
 taken r (close-spur number) = closedOn r (pos 0)
+taken r (collimation x) = withOpening r (collimated (r .opening))
 
 -- ---- a list of calls
 
@@ -156,7 +168,7 @@ abbrev pub freshReading : Reading
 freshReading =
     record {
       stage = Fresh;
-      opening = record { class = Fourth; instrument = Ds3; start = record { number = pos 0; height = pos 0 } };
+      opening = record { class = Fourth; instrument = Ds3; start = record { number = pos 0; height = pos 0 }; collimated = false };
       end = pos 0;
       sections = [];
       waiting = none;

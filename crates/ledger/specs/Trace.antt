@@ -16,7 +16,7 @@ use Rattle.book.specs.declared.Outcome.{Outcome}
 use Rattle.book.specs.declared.ClosedFigures.{ClosedFigures}
 use Rattle.book.specs.declared.CloseOutcome.{CloseOutcome}
 use Rattle.rules.specs.Standing.{standingOf, bookWith}
-use Rattle.rules.specs.Rules.{Call, open-line, station, end-run, drop-run, drop-section, close-line, open-spur, close-spur, isClosing}
+use Rattle.rules.specs.Rules.{Call, open-line, station, end-run, drop-run, drop-section, close-line, open-spur, close-spur, collimation, isClosing}
 use Rattle.rules.specs.Records.{callOf}
 use Rattle.book.specs.Calls.{freshBook, closeNumber, closeFigures, gaveOf}
 use Rattle.book.proofs.fresh.Reads as fresh-reads
@@ -28,6 +28,7 @@ use Rattle.book.proofs.calls.drop_section.Reads as drop-section-reads
 use Rattle.book.proofs.calls.close_line.Reads as close-line-reads
 use Rattle.book.proofs.calls.open_spur.Reads as open-spur-reads
 use Rattle.book.proofs.calls.close_spur.Reads as close-spur-reads
+use Rattle.book.proofs.calls.collimation.Reads as collimation-reads
 use Rattle.book.proofs.calls.figures_of.Reads as figures-of-reads
 use Rattle.book.proofs.calls.take.Reads as take-reads
 use Rattle.ledger.specs.Plain.{freshReading, after, refusals, closings, standing}
@@ -48,6 +49,7 @@ Ensures b (close-line number end) r = ⊥
 Ensures b (open-spur order instrument number height) r =
     open-spur-reads.Learnt tt (b, (order, (instrument, (number, (height, tt))))) r (b, (order, (instrument, (number, (height, tt)))))
 Ensures b (close-spur number) r = ⊥
+Ensures b (collimation x) r = collimation-reads.Learnt tt (b, (x, tt)) r (b, (x, tt))
 
 -- and of a closing
 abbrev pub CloseEnsures : Book → Call → CloseOutcome → Type 0
@@ -59,6 +61,7 @@ CloseEnsures b drop-section r = ⊥
 CloseEnsures b (close-line number end) r = close-line-reads.Learnt tt (b, (number, (end, tt))) r (b, (number, (end, tt)))
 CloseEnsures b (open-spur order instrument number height) r = ⊥
 CloseEnsures b (close-spur number) r = close-spur-reads.Learnt tt (b, (number, tt)) r (b, (number, tt))
+CloseEnsures b (collimation x) r = ⊥
 
 abbrev pub FiguresEnsures : Book → ClosedFigures → Type 0
 FiguresEnsures b f = figures-of-reads.Learnt tt (b, tt) f (b, tt)

@@ -1,16 +1,17 @@
--- The starred lines of document 01, 'Checked by hand', as one fact that the rules compute; a spur and short sections (document 02, W-202 and W-201) as others.
+-- The starred lines of document 01, 'Checked by hand', as one fact that the rules compute; a spur, short sections and the collimation test (document 02, W-202, W-201 and W-204) as others.
 use mathlib.Core.Path.{_≡_, refl}
 use mathlib.Core.List.{List, [], _∷_, _++_, map}
 use Prim.Native.Nat.{ℕ, _+_, _-_}
 use lib.IntN.{ℤ, pos, negℤ, _*ℤ_}
 use Rattle.roots.specs.Round.{roundEven}
 use Rattle.roots.specs.Limit.{isWithin}
+use Rattle.collimation.specs.Collimation.{withinAngle}
 use Rattle.station.specs.Station.{Station, stationOf, sightDifference, faceDifference, twiceHeight}
 use Rattle.adjust.specs.declared.Section.{Section}
 use Rattle.adjust.specs.declared.Point.{Point}
 use Rattle.adjust.specs.Line.{Frame, frameOf, exactTop, closure, Closing, accidental}
 use Rattle.rules.specs.Standing.{Standing, outwardOrReturn, bothWays}
-use Rattle.rules.specs.Rules.{Call, open-line, station, end-run, close-line, open-spur, close-spur}
+use Rattle.rules.specs.Rules.{Call, open-line, station, end-run, close-line, open-spur, close-spur, collimation}
 use Rattle.ledger.specs.Plain.{freshReading, after, refusals, standing, runOf, closings}
 
 -- ---- the stations of case A
@@ -48,6 +49,10 @@ a4 = station (pos 4687) (pos 4787) (staff 1500 1300 1400 6087 ∷ staff 1250 105
 abbrev open4 : ℕ → Call
 open4 height = open-line (pos 4) (pos 3) (pos 1) (pos height)
 
+-- a level that is adjusted: the values of GB 12898-91, Table B7 (document 02, W-204)
+abbrev tested : Call
+tested = collimation (pos 5937 ∷ pos 5951 ∷ pos 6043 ∷ pos 6067 ∷ pos 6800 ∷ pos 40300 ∷ [])
+
 -- ---- the starred lines
 
 abbrev s1 : Station
@@ -58,15 +63,15 @@ s2 = stationOf (pos 4687) (pos 4787) readings2
 
 -- A's section 1 alone, and A's section 2 twice, between two heights
 abbrev one : ℕ → ℕ → List Call
-one start end = open4 start ∷ a1 ∷ a2 ∷ end-run (pos 2) ∷ close-line (pos 2) (pos end) ∷ []
+one start end = open4 start ∷ tested ∷ a1 ∷ a2 ∷ end-run (pos 2) ∷ close-line (pos 2) (pos end) ∷ []
 
 abbrev two : ℕ → ℕ → List Call
-two start end = open4 start ∷ a3 ∷ a4 ∷ end-run (pos 2) ∷ a3 ∷ a4 ∷ end-run (pos 3) ∷ close-line (pos 3) (pos end) ∷ []
+two start end = open4 start ∷ tested ∷ a3 ∷ a4 ∷ end-run (pos 2) ∷ a3 ∷ a4 ∷ end-run (pos 3) ∷ close-line (pos 3) (pos end) ∷ []
 
 -- A's section 1 at third order, out and back, before its end and with it
 abbrev goneBack : ℕ → List Call
 goneBack red =
-    open-line (pos 3) (pos 3) (pos 1) (pos 10000) ∷ a1 ∷ a2 ∷ end-run (pos 2)
+    open-line (pos 3) (pos 3) (pos 1) (pos 10000) ∷ tested ∷ a1 ∷ a2 ∷ end-run (pos 2)
     ∷ station (pos 4687) (pos 4787) backReadings1 ∷ station (pos 4787) (pos 4687) (backReadings2 1380 red) ∷ []
 
 abbrev outAndBack : ℕ → List Call
@@ -104,14 +109,14 @@ pub record Starred : Type 0 where
   -- A's section 1, and that section alone from 10000
   pub section-1 : standing (after freshReading (one 10000 10651)) .sections ≡ section 2 2632 2564 0 ∷ []
   pub w28 : closures (closings freshReading (one 10000 10651)) ≡ pos 28 ∷ []
-  pub w28-taken : refusals freshReading (one 10000 10651) ≡ 0 ∷ 0 ∷ 0 ∷ 0 ∷ 0 ∷ []
+  pub w28-taken : refusals freshReading (one 10000 10651) ≡ 0 ∷ 0 ∷ 0 ∷ 0 ∷ 0 ∷ 0 ∷ []
   pub w32 : closure (pos 10000) (pos 10650) (standing (after freshReading (one 10000 10650)) .sections) ≡ pos 32
-  pub w32-refused : refusals freshReading (one 10000 10650) ≡ 0 ∷ 0 ∷ 0 ∷ 0 ∷ 36 ∷ []
+  pub w32-refused : refusals freshReading (one 10000 10650) ≡ 0 ∷ 0 ∷ 0 ∷ 0 ∷ 0 ∷ 36 ∷ []
   -- R 2564: the end of a return with D 8 is taken, with D 9 refused
   pub d8 : returned 6067 ≡ section 2 2624 2564 8 ∷ []
-  pub d8-taken : refusals freshReading (outAndBack 6067) ≡ 0 ∷ 0 ∷ 0 ∷ 0 ∷ 0 ∷ 0 ∷ 0 ∷ []
+  pub d8-taken : refusals freshReading (outAndBack 6067) ≡ 0 ∷ 0 ∷ 0 ∷ 0 ∷ 0 ∷ 0 ∷ 0 ∷ 0 ∷ []
   pub d9 : returned 6066 ≡ section 2 2623 2564 9 ∷ []
-  pub d9-refused : refusals freshReading (outAndBack 6066) ≡ 0 ∷ 0 ∷ 0 ∷ 0 ∷ 0 ∷ 0 ∷ 32 ∷ []
+  pub d9-refused : refusals freshReading (outAndBack 6066) ≡ 0 ∷ 0 ∷ 0 ∷ 0 ∷ 0 ∷ 0 ∷ 0 ∷ 32 ∷ []
   pub t : accidental (section 2 0 20000 24) ≡ pos 14400
   -- A's section 2 twice: the middle is 21099 / 2 and 21101 / 2, at Q 2200 and R 1600
   pub section-2 : standing (after freshReading (two 10000 11099)) .sections ≡ section 2 2200 1600 0 ∷ section 3 2200 1600 0 ∷ []
@@ -124,7 +129,7 @@ pub record Starred : Type 0 where
   pub tie-2 : heights (closings freshReading (two 10001 11100)) ≡ (pos 10001 ∷ pos 10550 ∷ pos 11100 ∷ []) ∷ []
 
 pub starred : Starred
-unfolding roundEven isWithin
+unfolding roundEven isWithin withinAngle
 starred =
     record {
       first-d = refl;
@@ -158,7 +163,7 @@ starred =
 -- fourth order, DS3, from benchmark 1: A's section 1 out and back
 abbrev spurOutAndBack : ℕ → ℕ → List Call
 spurOutAndBack black red =
-    open-spur (pos 4) (pos 3) (pos 1) (pos 10000) ∷ a1 ∷ a2 ∷ end-run (pos 2)
+    open-spur (pos 4) (pos 3) (pos 1) (pos 10000) ∷ tested ∷ a1 ∷ a2 ∷ end-run (pos 2)
     ∷ station (pos 4687) (pos 4787) backReadings1 ∷ station (pos 4787) (pos 4687) (backReadings2 black red) ∷ end-run (pos 1) ∷ []
 
 -- number and height of each point, and the corrections
@@ -171,8 +176,8 @@ corrected cs = map (λ (c : Closing). map (λ (p : Point). p .correction) (c .po
 -- R 2564: a return with D 14 is taken, with D 15 refused. FIN closes it, END does not; a height of 10654.5 is printed as the even 10654
 pub record SpurWorked : Type 0 where
   pub d14 : standing (after freshReading (spurOutAndBack 1377 6064)) .sections ≡ section 2 2618 2564 14 ∷ []
-  pub d14-taken : refusals freshReading (spurOutAndBack 1377 6064) ≡ 0 ∷ 0 ∷ 0 ∷ 0 ∷ 0 ∷ 0 ∷ 0 ∷ []
-  pub d15-refused : refusals freshReading (spurOutAndBack 1377 6063) ≡ 0 ∷ 0 ∷ 0 ∷ 0 ∷ 0 ∷ 0 ∷ 32 ∷ []
+  pub d14-taken : refusals freshReading (spurOutAndBack 1377 6064) ≡ 0 ∷ 0 ∷ 0 ∷ 0 ∷ 0 ∷ 0 ∷ 0 ∷ 0 ∷ []
+  pub d15-refused : refusals freshReading (spurOutAndBack 1377 6063) ≡ 0 ∷ 0 ∷ 0 ∷ 0 ∷ 0 ∷ 0 ∷ 0 ∷ 32 ∷ []
   pub by-end : refusals (after freshReading (spurOutAndBack 1377 6064)) (close-line (pos 2) (pos 10655) ∷ close-line (pos 0) (pos 0) ∷ close-spur (pos 1) ∷ close-spur (pos 2) ∷ close-spur (pos 2) ∷ [])
       ≡ 41 ∷ 4 ∷ 34 ∷ 0 ∷ 21 ∷ []
   pub no-closure : closures (closings freshReading (spurOutAndBack 1377 6064 ++ (close-spur (pos 2) ∷ []))) ≡ pos 0 ∷ []
@@ -182,11 +187,11 @@ pub record SpurWorked : Type 0 where
   -- its second section may not end on the start number, as a line's may; FIN does not close a line that is no spur, nor a fresh book; a spur is of fourth order
   pub no-loop : refusals (after freshReading (spurOutAndBack 1377 6064)) (a1 ∷ a2 ∷ end-run (pos 1) ∷ end-run (pos 3) ∷ []) ≡ 0 ∷ 0 ∷ 30 ∷ 0 ∷ []
   pub loop : refusals (after freshReading (outAndBack 6067)) (a1 ∷ a2 ∷ end-run (pos 1) ∷ []) ≡ 0 ∷ 0 ∷ 0 ∷ []
-  pub fin-on-line : refusals freshReading (close-spur (pos 2) ∷ open4 10000 ∷ a1 ∷ a2 ∷ end-run (pos 2) ∷ close-spur (pos 2) ∷ []) ≡ 21 ∷ 0 ∷ 0 ∷ 0 ∷ 0 ∷ 41 ∷ []
+  pub fin-on-line : refusals freshReading (close-spur (pos 2) ∷ open4 10000 ∷ tested ∷ a1 ∷ a2 ∷ end-run (pos 2) ∷ close-spur (pos 2) ∷ []) ≡ 21 ∷ 0 ∷ 0 ∷ 0 ∷ 0 ∷ 0 ∷ 41 ∷ []
   pub order-3 : refusals freshReading (open-spur (pos 3) (pos 3) (pos 1) (pos 10000) ∷ []) ≡ 3 ∷ []
 
 pub spur-worked : SpurWorked
-unfolding roundEven isWithin
+unfolding roundEven isWithin withinAngle
 spur-worked =
     record {
       d14 = refl;
@@ -216,7 +221,7 @@ level kb kf s = station (pos kb) (pos kf) (sighted kb s 0 0 ∷ sighted kf s 0 0
 abbrev short : Call → ℕ → ℕ → ℕ → ℕ → List ℕ
 short opening s t h g =
     refusals freshReading
-    (opening ∷ level 4787 4687 s ∷ level 4687 4787 s ∷ end-run (pos 2)
+    (opening ∷ tested ∷ level 4787 4687 s ∷ level 4687 4787 s ∷ end-run (pos 2)
     ∷ level 4687 4787 s ∷ station (pos 4787) (pos 4687) (sighted 4787 s 0 0 ∷ sighted 4687 t h g ∷ []) ∷ end-run (pos 1) ∷ [])
 
 abbrev third : Call
@@ -227,7 +232,7 @@ spur = open-spur (pos 4) (pos 3) (pos 1) (pos 10000)
 
 -- the end of the return is answered with n, all before it is taken
 abbrev ends : ℕ → List ℕ
-ends n = 0 ∷ 0 ∷ 0 ∷ 0 ∷ 0 ∷ 0 ∷ n ∷ []
+ends n = 0 ∷ 0 ∷ 0 ∷ 0 ∷ 0 ∷ 0 ∷ 0 ∷ n ∷ []
 
 -- R 16, 1999 and 2000 have one limit of D: 7 at third order, 12 on a spur
 pub record ShortWorked : Type 0 where
@@ -241,7 +246,7 @@ pub record ShortWorked : Type 0 where
   pub t-16 : (accidental (section 2 0 16 7) ≡ pos 1531250) × (accidental (section 2 0 16 12) ≡ pos 4500000)
 
 pub short-worked : ShortWorked
-unfolding roundEven isWithin
+unfolding roundEven isWithin withinAngle
 short-worked =
     record {
       third-16 = (refl, refl);
@@ -252,3 +257,15 @@ short-worked =
       spur-2000 = (refl, refl);
       t-16 = (refl, refl);
     }
+
+-- ---- the collimation test
+
+-- U is 27, the first above 20″ at these distances
+abbrev untrue : Call
+untrue = collimation (pos 5937 ∷ pos 5951 ∷ pos 6080 ∷ pos 6067 ∷ pos 6800 ∷ pos 40300 ∷ [])
+
+-- no station before one is taken; one above 20″ is refused and may be tried again; a second one is not taken, nor one on a fresh book, nor values out of range
+pub tested-first : refusals freshReading (tested ∷ open4 10000 ∷ a1 ∷ untrue ∷ a1 ∷ collimation [] ∷ tested ∷ a1 ∷ tested ∷ [])
+    ≡ 21 ∷ 0 ∷ 46 ∷ 45 ∷ 46 ∷ 44 ∷ 0 ∷ 0 ∷ 45 ∷ []
+unfolding withinAngle
+tested-first = refl

@@ -1,4 +1,4 @@
-// The records of a levelling book: one for each call, named by its tag in the text book (document 01, 'The text book and the report'; document 02, W-202).
+// The records of a levelling book: one for each call, named by its tag in the text book (document 01, 'The text book and the report'; document 02, W-202 and W-204).
 
 pub enum Tag {
     // open the line
@@ -17,6 +17,8 @@ pub enum Tag {
     Spr,
     // close the spur
     Fin,
+    // the collimation test
+    Ang,
 }
 
 // What an entry of a book is: a record with this tag, or none and refused with this number of document 01.

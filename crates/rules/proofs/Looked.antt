@@ -20,7 +20,7 @@ use Rattle.rules.specs.declared.Line.{Line}
 use Rattle.rules.specs.declared.Book.{Book}
 use Rattle.rules.specs.declared.state.Seen.{Seen}
 use Rattle.rules.specs.Standing.{Standing, standingOf, isFresh, isOpen, isEmpty, isReturn, isShut, began, onLine, outwardOrReturn, bothWays, lineBroken}
-use Rattle.rules.specs.Rules.{open-line, station, end-run, drop-run, open-spur, openTests, closeTests, discrepancyWithin, inputTests, stationTests, bookRefusal}
+use Rattle.rules.specs.Rules.{open-line, station, end-run, drop-run, open-spur, collimation, openTests, closeTests, stateTests, discrepancyWithin, inputTests, stationTests, bookRefusal}
 use Rattle.rules.specs.code.Seen.{numbered, numbersIn, beside, isAmong, seenIn}
 use Rattle.rules.specs.code.Opened.{openRefusal}
 use Rattle.rules.proofs.Unbroken.{empty-count}
@@ -111,6 +111,10 @@ module _ (b : Book) where
   station-alike kb kf readings =
       let c = station kb kf readings in
       λ i. firstOf (inputTests c ++ ((20, lineBroken (b .line) (counted i)) ∷ stationTests (b .line) (shut-alike i) kb (figuresOf (stationOf kb kf readings))))
+
+  pub collimation-alike : (x : List ℤ) → bookRefusal (beside (b .line) (b .sections .count)) (collimation x) ≡ bookRefusal v (collimation x)
+  unfolding bookRefusal
+  collimation-alike x = λ i. firstOf (inputTests (collimation x) ++ ((20, lineBroken (b .line) (counted-beside i)) ∷ stateTests v (collimation x)))
 
   pub drop-alike : bookRefusal (beside (b .line) (b .sections .count)) drop-run ≡ bookRefusal v drop-run
   unfolding bookRefusal

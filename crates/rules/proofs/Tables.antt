@@ -12,7 +12,7 @@ use Rattle.adjust.specs.Sections.{misfit}
 use Rattle.numbers.proofs.Tests.{or-r}
 use Rattle.numbers.proofs.Tables.{eachNumber, numbered, testOf, failed, rises}
 use Rattle.rules.specs.Standing.{Standing, lineBroken}
-use Rattle.rules.specs.Rules.{Call, open-line, station, end-run, drop-run, drop-section, close-line, open-spur, close-spur, isClosing, broken, inputTests, stateTests, refusal, bookTests, bookRefusal, rank}
+use Rattle.rules.specs.Rules.{Call, open-line, station, end-run, drop-run, drop-section, close-line, open-spur, close-spur, collimation, isClosing, broken, inputTests, stateTests, refusal, bookTests, bookRefusal, rank}
 
 -- a call's tests
 abbrev pub tests : Standing → Call → List (ℕ × Bool)
@@ -40,6 +40,7 @@ tables v drop-section = search needs
 tables v (close-line number end) = search needs
 tables v (open-spur order instrument number height) = search needs
 tables v (close-spur number) = search needs
+tables v (collimation x) = search needs
 
 module _ (v : Standing) (c : Call) where
   pub fails : refusal v c ≡ 0 → (n : ℕ) → testOf n (tests v c) ≡ false

@@ -1,5 +1,5 @@
 -- The rules: each call's tests, each beside its refusal number and in the order in which they are made, and what a call that is taken leaves
--- (document 01, 'Runs, sections and the standing list' and the two lists of refusals; for spurs and short sections document 02, W-202 and W-201).
+-- (document 01, 'Runs, sections and the standing list' and the two lists of refusals; document 02, W-201, W-202 and W-204).
 use mathlib.Core.Bool.{Bool, true, false, not, cond, _&&_, _||_}
 use mathlib.Core.List.{List, [], _∷_, _++_}
 use Prim.Native.Nat.{ℕ, _*_, _%_}
@@ -14,6 +14,7 @@ use Rattle.station.specs.declared.Instrument.{Instrument}
 use Rattle.station.specs.declared.Instrument.the-variants.{Ds3, Ds1}
 use Rattle.station.specs.declared.Figures.{Figures}
 use Rattle.station.specs.Station.{stationOf, figuresOf, limitsOf, readingTests, limitTests}
+use Rattle.collimation.specs.Collimation.{collimationOf, withinAngle, rangeTests}
 use Rattle.adjust.specs.declared.Opening.{Opening}
 use Rattle.adjust.specs.declared.Section.{Section}
 use Rattle.adjust.specs.Sections.{misfit, heightInRange}
@@ -32,7 +33,7 @@ use Rattle.rules.specs.declared.Line.{Line}
 use Rattle.rules.specs.Standing.{Standing, isFresh, isOpen, isClosed, isEmpty, onLine, isShut, began, outwardOrReturn, isReturn, noRun, withStation, oneWay, bothWays, lineBroken}
 
 -- open, a line or a spur: order, instrument, start number and height; station: the constants and the readings, back and fore; end run: the benchmark's number;
--- close: the last number, and of a line that is no spur the end height
+-- close: the last number, and of a line that is no spur the end height; collimation: its six values
 pub data Call : Type 0 where
   open-line : ℤ → ℤ → ℤ → ℤ → Call
   station : ℤ → ℤ → List (List ℤ) → Call
@@ -42,6 +43,7 @@ pub data Call : Type 0 where
   close-line : ℤ → ℤ → Call
   open-spur : ℤ → ℤ → ℤ → ℤ → Call
   close-spur : ℤ → Call
+  collimation : List ℤ → Call
 
 -- ---- the parts of the rules
 
@@ -99,6 +101,7 @@ inputTests drop-section = []
 inputTests (close-line number end) = (4, not (numberInRange number)) ∷ (5, not (heightInRange end)) ∷ []
 inputTests (open-spur order instrument number height) = openTests (eqZ order (pos 4)) instrument number height
 inputTests (close-spur number) = (4, not (numberInRange number)) ∷ []
+inputTests (collimation x) = rangeTests (collimationOf x)
 
 -- of a line between its start and the end height: its length and its closure
 abbrev pub totalTests : Terms → Bool → Totals → List (ℕ × Bool)
@@ -111,6 +114,7 @@ lineTests v end = totalTests (termsOf (v .line .opening .class)) (isShut v) (tot
 abbrev pub stationTests : Line → Bool → ℤ → Figures → List (ℕ × Bool)
 stationTests l shut kb f =
     (21, not (isOpen (l .stage)) || shut)
+    ∷ (46, not (l .opening .collimated))
     ∷ (22, leb 200 (l .present .count))
     ∷ (23, outOfTurn l kb)
     ∷ limitTests (limitsOf (orderOf (l .opening .class)) (l .opening .instrument)) (l .present .difference) f
@@ -148,6 +152,8 @@ stateTests v (close-line number end) =
     closeTests v (not (termsOf (v .line .opening .class) .tied)) number (isShut v && not (eqZ end (v .line .opening .start .height))) ++ lineTests v end
 stateTests v (open-spur order instrument number height) = openState v
 stateTests v (close-spur number) = closeTests v (termsOf (v .line .opening .class) .tied) number false
+-- a test is taken once, and within 20″ (document 02, W-204)
+stateTests v (collimation x) = (21, not (isOpen (v .line .stage))) ∷ (45, v .line .opening .collimated || not (withinAngle (collimationOf x))) ∷ []
 
 abbrev pub isClosing : Call → Bool
 isClosing (open-line order instrument number height) = false
@@ -158,6 +164,7 @@ isClosing drop-section = false
 isClosing (close-line number end) = true
 isClosing (open-spur order instrument number height) = false
 isClosing (close-spur number) = true
+isClosing (collimation x) = false
 
 -- refusal 20, by what is read: the line, or all sections too
 abbrev pub brokenIn : Bool → Standing → Bool
@@ -182,9 +189,9 @@ bookTests v c = inputTests c ++ ((20, broken v c) ∷ stateTests v c)
 unfoldable pub bookRefusal : Standing → Call → ℕ
 bookRefusal v c = firstOf (bookTests v c)
 
--- the order in which the numbers are tested: as they stand, but 31 before 30, and 41 directly after 21
+-- the order in which the numbers are tested: as they stand, but 31 before 30, 41, 45 and 46 directly after 21, and 44 with the input's numbers
 abbrev pub rank : ℕ → ℕ
-rank n = cond (eqb n 31) 299 (cond (eqb n 41) 211 (10 * n))
+rank n = cond (eqb n 31) 299 (cond (eqb n 41 || eqb n 45 || eqb n 46) 211 (cond (eqb n 44) 56 (10 * n)))
 
 -- ---- what a call that is taken leaves
 
@@ -216,7 +223,20 @@ abbrev pub begun : Opening → Line
 begun o = record { stage = Open; opening = o; end = pos 0; waiting = Nothing; present = noRun }
 
 abbrev pub openingOf : Class → ℤ → ℤ → ℤ → Opening
-openingOf class instrument number height = record { class = class; instrument = instrumentOf instrument; start = record { number = number; height = height } }
+openingOf class instrument number height = record { class = class; instrument = instrumentOf instrument; start = record { number = number; height = height }; collimated = false }
+
+abbrev pub collimated : Opening → Opening
+collimated o = record { class = o .class; instrument = o .instrument; start = o .start; collimated = true }
+
+abbrev pub withOpening : Line → Opening → Line
+withOpening l o =
+    record {
+      stage = l .stage;
+      opening = o;
+      end = l .end;
+      waiting = l .waiting;
+      present = l .present;
+    }
 
 abbrev pub closedAt : Line → ℤ → Line
 closedAt l end =
@@ -242,3 +262,4 @@ taken v (close-line number end) = record { line = closedAt (v .line) end; sectio
 taken v (open-spur order instrument number height) = record { line = begun (openingOf Spur instrument number height); sections = [] }
 -- a spur has no end height: 0 stands for it
 taken v (close-spur number) = record { line = closedAt (v .line) (pos 0); sections = v .sections }
+taken v (collimation x) = record { line = withOpening (v .line) (collimated (v .line .opening)); sections = v .sections }

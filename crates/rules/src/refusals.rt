@@ -8,7 +8,7 @@ ghost use Rattle.rules.specs.Standing.{isShut, outwardOrReturn, bothWays
 ghost use Rattle.rules.specs.code.Seen.{numbersIn, beside};
 ghost use Rattle.rules.specs.code.Opened.{openRefusal};
 ghost use Rattle.rules.specs.code.Bounds.{SmallRuns};
-ghost use Rattle.rules.specs.Rules.{open-line, end-run, drop-run, open-spur, openTests, numberInRange, numberAllowed, countedLength, discrepancyWithin, outOfTurn, stationTests, bookStationTests, stateTests, bookRefusal};
+ghost use Rattle.rules.specs.Rules.{open-line, end-run, drop-run, open-spur, collimation, openTests, numberInRange, numberAllowed, countedLength, discrepancyWithin, outOfTurn, stationTests, bookStationTests, stateTests, bookRefusal};
 use super::Line;
 use super::Run;
 use super::Waiting;
@@ -22,6 +22,8 @@ use super::state::on_line;
 use adjust::terms::Root;
 use adjust::terms::order_of;
 use adjust::terms::terms_of;
+use collimation::angle_refusal;
+use collimation::input_refusal;
 use roots::limits::within;
 use station::Figures;
 use station::pick;
@@ -126,10 +128,11 @@ fn station_state(line: Line, shut: bool, kb: i64, f: Figures) -> u8
     let limits = station::judge(order_of(class), instrument, line.present.difference, f);
     let turn = pick(out_of_turn(line, kb), 23, limits);
     let full = pick(200 <= line.present.count, 22, turn);
-    pick(!is_open(stage) | shut, 21, full)
+    let tested = pick(!opening.collimated, 46, full);
+    pick(!is_open(stage) | shut, 21, tested)
 }
 
-// The refusal of a station with the figures f, whose back staff has the constant kb: 20 to 28, or 0. 6, 7 and 8 are told by `station::read`.
+// The refusal of a station with the figures f, whose back staff has the constant kb: 20 to 28 or 46, or 0. 6, 7 and 8 are told by `station::read`.
 pub fn station_refusal(line: Line, count: usize, numbers: &[i64; 64], kb: i64, f: Figures) -> u8
     ensures { λ r. ⌜ r ≡ firstOf (bookStationTests (numbersIn line count (now (numbers .entry))) kb f) ⌝ }
 {
@@ -138,6 +141,24 @@ pub fn station_refusal(line: Line, count: usize, numbers: &[i64; 64], kb: i64, f
         return 20;
     }
     station_state(line, seen.shut, kb, f)
+}
+
+// ---- the collimation test
+
+pub fn collimation_refusal(line: Line, count: usize, x: [i64; 6]) -> u8
+    ensures { λ r. ⌜ r ≡ bookRefusal (beside line count) (collimation x) ⌝ }
+{
+    let input = input_refusal(x);
+    if input != 0 {
+        return input;
+    }
+    if line_broken(line, count) {
+        return 20;
+    }
+    let stage = line.stage;
+    let opening = line.opening;
+    let again = pick(opening.collimated, 45, angle_refusal(x));
+    pick(!is_open(stage), 21, again)
 }
 
 // ---- drop run, and drop section, whose tests are the same

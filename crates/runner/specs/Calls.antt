@@ -10,8 +10,8 @@ use lib.IntN.{ℤ, pos, negsuc}
 use Rattle.numbers.specs.Whole.{eqZ, written}
 use Rattle.records.specs.declared.Kind.{Kind}
 use Rattle.records.specs.declared.Kind.the-variants.{Record, Refused}
-use Rattle.records.specs.declared.Tag.the-variants.{Lin, Sta, Run, Drr, Drs, End, Spr, Fin}
-use Rattle.rules.specs.Rules.{open-line, station, close-line, open-spur, close-spur}
+use Rattle.records.specs.declared.Tag.the-variants.{Lin, Sta, Run, Drr, Drs, End, Spr, Fin, Ang}
+use Rattle.rules.specs.Rules.{open-line, station, close-line, open-spur, close-spur, collimation}
 use Rattle.ledger.specs.Entries.{Entry, asks, refused, entryOf}
 
 -- the record of a kind
@@ -25,7 +25,8 @@ kindOf k =
     (cond (eqZ k (pos 6)) (Record End)
     (cond (eqZ k (pos 7)) (Record Spr)
     (cond (eqZ k (pos 8)) (Record Fin)
-    (Refused 1))))))))
+    (cond (eqZ k (pos 9)) (Record Ang)
+    (Refused 1)))))))))
 
 -- the first entry of a list, refused where the list is too short for it
 unfoldable pub firstEntry : List ℤ → Entry
@@ -52,13 +53,15 @@ example =
     ++ (pos 6 ∷ pos 2 ∷ negsuc 0 ∷ pos 0 ∷ pos 0 ∷ nothingMore)
     ++ (pos 7 ∷ pos 4 ∷ pos 3 ∷ pos 1 ∷ pos 10000 ∷ nothingMore)
     ++ (pos 8 ∷ pos 2 ∷ pos 0 ∷ pos 0 ∷ pos 0 ∷ nothingMore)
-    ++ (pos 9 ∷ pos 2 ∷ pos 0 ∷ pos 0 ∷ pos 0 ∷ nothingMore)
+    ++ (pos 9 ∷ pos 5937 ∷ pos 5951 ∷ pos 6043 ∷ pos 6067 ∷ pos 6800 ∷ pos 40300 ∷ pos 0 ∷ pos 0 ∷ pos 0 ∷ pos 0 ∷ [])
+    ++ (pos 10 ∷ pos 2 ∷ pos 0 ∷ pos 0 ∷ pos 0 ∷ nothingMore)
     ++ (pos 4 ∷ [])
 
 pub example-entries : entriesOf example
     ≡ asks (open-line (pos 4) (pos 3) (pos 1) (pos 10000))
     ∷ asks (station (pos 4687) (pos 4787) ((pos 1571 ∷ pos 1197 ∷ pos 1384 ∷ pos 6171 ∷ []) ∷ (pos 739 ∷ pos 363 ∷ pos 551 ∷ pos 5239 ∷ []) ∷ []))
-    ∷ asks (close-line (pos 2) (negsuc 0)) ∷ asks (open-spur (pos 4) (pos 3) (pos 1) (pos 10000)) ∷ asks (close-spur (pos 2)) ∷ refused 1 ∷ refused 1 ∷ []
+    ∷ asks (close-line (pos 2) (negsuc 0)) ∷ asks (open-spur (pos 4) (pos 3) (pos 1) (pos 10000)) ∷ asks (close-spur (pos 2))
+    ∷ asks (collimation (pos 5937 ∷ pos 5951 ∷ pos 6043 ∷ pos 6067 ∷ pos 6800 ∷ pos 40300 ∷ [])) ∷ refused 1 ∷ refused 1 ∷ []
 unfolding firstEntries firstEntry kindOf
 example-entries = refl
 

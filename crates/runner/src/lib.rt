@@ -30,6 +30,7 @@ fn kind_of(number: i64) -> Kind
         6 => Kind::Record(Tag::End),
         7 => Kind::Record(Tag::Spr),
         8 => Kind::Record(Tag::Fin),
+        9 => Kind::Record(Tag::Ang),
         _ => Kind::Refused(1),
     }
 }

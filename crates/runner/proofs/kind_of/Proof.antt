@@ -18,12 +18,12 @@ case s e = ap kindOf (ap (toZ w64) (sym e) ∙ stored-id (s .fits .number))
 none : (s : tie.Start) {n : ℕ} → (ofZ w64 (s .args .number) ≡ n → ⊥) → eqZ (s .args .number) (pos n) ≡ false
 none s {n} f = eqZ-ne (s .args .number) (pos n) (λ e. f (ap (ofZ w64) e))
 
-returns-9 : tie.Need-returns-9
+returns-10 : tie.Need-returns-10
 unfolding kindOf
-returns-9 c =
+returns-10 c =
     let s = c .before in
     let n = c .match .rest in
-    rw (none s (n .0 .0 .0 .0 .0 .0 .0 .1), none s (n .0 .0 .0 .0 .0 .0 .1), none s (n .0 .0 .0 .0 .0 .1), none s (n .0 .0 .0 .0 .1), none s (n .0 .0 .0 .1), none s (n .0 .0 .1), none s (n .0 .1), none s (n .1))
+    rw (none s (n .0 .0 .0 .0 .0 .0 .0 .0 .1), none s (n .0 .0 .0 .0 .0 .0 .0 .1), none s (n .0 .0 .0 .0 .0 .0 .1), none s (n .0 .0 .0 .0 .0 .1), none s (n .0 .0 .0 .0 .1), none s (n .0 .0 .0 .1), none s (n .0 .0 .1), none s (n .0 .1), none s (n .1))
 
 pub kind-of-spec : {M : Type 1} → statement M
 unfolding kindOf
@@ -38,4 +38,5 @@ kind-of-spec =
     (λ c. case (c .before) (c .match .keys6))
     (λ c. case (c .before) (c .match .keys7))
     (λ c. case (c .before) (c .match .keys8))
-    returns-9)
+    (λ c. case (c .before) (c .match .keys9))
+    returns-10)

@@ -8,7 +8,7 @@ use Rattle.rules.specs.declared.Book.{Book}
 use Rattle.rules.specs.Standing.{standingOf, bookIn}
 use Rattle.rules.specs.Rules.{Call, bookRefusal}
 use Rattle.rules.specs.Records.{argument, callOf}
-use Rattle.rules.proofs.Looked.{open-alike, spur-alike, station-alike, drop-alike, end-alike}
+use Rattle.rules.proofs.Looked.{collimation-alike, open-alike, spur-alike, station-alike, drop-alike, end-alike}
 use Rattle.book.specs.declared.Change.{Change}
 use Rattle.book.specs.code.Changes.{changeBy, changeOf}
 use Rattle.book.proofs.Joined.{open-as, end-as, close-as, spur-as, close-spur-as}
@@ -197,6 +197,18 @@ returns-8 c =
     let s = k .before .before in
     told s (k .enum-told8 .given .1) (close-spur-as (close-spur-1 (c .before))) refl (c .close-spur-change .ensures)
 
+enum-told-9 : tie.Need-enum-told-9
+enum-told-9 c = search needs
+
+collimation-record-requires : tie.Need-collimation-record-requires
+collimation-record-requires c κs = search needs
+
+returns-9 : tie.Need-returns-9
+returns-9 c =
+    let k = c .before in
+    let s = k .before .before in
+    told s (k .enum-told9 .given .1) refl (collimation-alike (book s) _) (c .collimation-record .ensures)
+
 pub decide-spec : {M : Type 1} → statement M
 decide-spec =
     tie.close
@@ -229,6 +241,8 @@ decide-spec =
     enum-told-8
     array-copy-out-close-spur-change
     close-spur-change-requires
+    enum-told-9
+    collimation-record-requires
     returns
     returns-2
     returns-3
@@ -236,4 +250,5 @@ decide-spec =
     returns-5
     returns-6
     returns-7
-    returns-8)
+    returns-8
+    returns-9)

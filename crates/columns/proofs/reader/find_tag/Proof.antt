@@ -7,6 +7,7 @@ use Rattle.columns.proofs.reader.find_tag.Tie as tie
 returns : tie.Need-returns
 unfolding tagAmong
 returns c =
+    rw (c .tag-or9 .ensures) (let c = c .before .before in
     rw (c .tag-or8 .ensures) (let c = c .before .before in
     rw (c .tag-or7 .ensures) (let c = c .before .before in
     rw (c .tag-or6 .ensures) (let c = c .before .before in
@@ -14,7 +15,7 @@ returns c =
     rw (c .tag-or4 .ensures) (let c = c .before .before in
     rw (c .tag-or3 .ensures) (let c = c .before .before in
     rw (c .tag-or2 .ensures) (let c = c .before .before in
-    rw (c .tag-or .ensures))))))))
+    rw (c .tag-or .ensures)))))))))
 
 -- `tag_or` asks nothing of its callers
 pub find-tag-spec : {M : Type 1} → statement M

@@ -33,13 +33,17 @@ is-open-requires c κs = search needs
 pick-requires-3 : tie.Need-pick-requires-3
 pick-requires-3 c κs = search needs
 
+pick-requires-4 : tie.Need-pick-requires-4
+pick-requires-4 c κs = search needs
+
 difference-fits : (s : tie.Start) → SFits w64 (s .args .line .present .difference)
 difference-fits s = search needs
 
 returns : tie.Need-returns
 returns c =
     let opened = c .before in
-    let full = opened .before in
+    let tested = opened .before in
+    let full = tested .before .before in
     let turned = full .before .before in
     let turn = turned .before in
     let limits = turn .before in
@@ -49,7 +53,8 @@ returns c =
     let limit = limits .judge .ensures ∙ (λ i. firstOf (limitTests (limitsOf (ordered .order-of .ensures i) (l .opening .instrument)) (stored-id (difference-fits s) i) (s .args .f))) in
     let e23 = turned .pick .ensures ∙ (λ i. cond ((turn .out-of-turn .ensures ∙ ap (outOfTurn l) (stored-id (s .fits .kb))) i) 23 (limit i)) in
     let e22 = full .pick2 .ensures ∙ (λ i. cond (leb 200 (l .present .count)) 22 (e23 i)) in
-    c .pick3 .ensures ∙ (λ i. cond (not (opened .is-open .ensures i) || s .args .shut) 21 (e22 i))
+    let e46 = tested .pick3 .ensures ∙ (λ i. cond (not (l .opening .collimated)) 46 (e22 i)) in
+    c .pick4 .ensures ∙ (λ i. cond (not (opened .is-open .ensures i) || s .args .shut) 21 (e46 i))
 
 pub station-state-spec : {M : Type 1} → statement M
 station-state-spec =
@@ -60,6 +65,7 @@ station-state-spec =
     out-of-turn-requires
     pick-requires
     pick-requires-2
-    is-open-requires
     pick-requires-3
+    is-open-requires
+    pick-requires-4
     returns)
