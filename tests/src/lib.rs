@@ -2,7 +2,7 @@
 //!
 //! The other implementation: `fraction`, `station`, `rules`, `plain`, `standing`, `closing`, `adjust`, `figures`, and for texts `text`, `write`, `report`.
 //! Inputs for comparisons: `random`, `lent`, `examples`, `opening`, `fixed`, for lists of calls `wished`, `caller`, `at_limits`, `mistakes`, `work`,
-//! `generate`, `mutate`, and for texts `damage`, `largest`. Both implementations on one list of calls: `both`.
+//! `generate`, `mutate`, and for texts `damage`, `largest`. Both implementations on one of them: `both`.
 
 pub mod adjust;
 pub mod at_limits;

@@ -1,7 +1,7 @@
 //! The report of a text book by the proved function, compared byte for byte with the other implementation's.
 use std::collections::BTreeMap;
-use std::sync::LazyLock;
 
+use level_tests::both::{report, report_in, words};
 use level_tests::damage::{damage, rubbish, text_book};
 use level_tests::examples::{book, examples};
 use level_tests::generate::{line, Kind};
@@ -10,58 +10,9 @@ use level_tests::mutate::any_call;
 use level_tests::opening::{opening, usual};
 use level_tests::plain::Call;
 use level_tests::random::Random;
-use level_tests::report::{reduce_into, SHORTEST_BUFFER};
 use level_tests::rules::Class;
 use level_tests::text::{number, LINE, LONGEST_TEXT};
 use level_tests::write::{filled, heading, line_of, text_of};
-use levelbook::raw::level_reduce;
-
-/// Bytes that no report has.
-static DIRT: LazyLock<Vec<u8>> = LazyLock::new(|| (0..1 << 20).map(|k| 128 + (k % 127) as u8).collect());
-
-fn words(bytes: &[u8]) -> String {
-    String::from_utf8_lossy(bytes).into_owned()
-}
-
-/// A length that no call writes.
-const UNWRITTEN: usize = usize::MAX;
-
-/// The proved call: the number of its refusal, 0 where it is taken, and the length that it leaves.
-fn proved(text: &[u8], buffer: &mut [u8]) -> (u8, usize) {
-    let mut length = UNWRITTEN;
-    // SAFETY: as in `levelbook::reduce_into`, which does not show what is left of the length by a refusal.
-    let number = unsafe { level_reduce(text.as_ptr(), text.len(), buffer.as_mut_ptr(), buffer.len(), &mut length) };
-    (number, length)
-}
-
-/// Both calls on the same text over the same dirty buffer: the report, or the number of the refusal.
-fn compare_in(text: &[u8], places: usize) -> Result<Vec<u8>, u8> {
-    let (mut given, mut expected) = (DIRT[..places].to_vec(), DIRT[..places].to_vec());
-    let answer = proved(text, &mut given);
-    let wanted = reduce_into(text, &mut expected);
-    if answer != wanted.map_or_else(|number| (number, UNWRITTEN), |length| (0, length)) || given != expected {
-        let place = given.iter().zip(&expected).position(|(one, other)| one != other);
-        let [given, expected] = [&given, &expected].map(|one| words(&one[..one.len().min(wanted.unwrap_or(0) + LINE)]));
-        panic!("{answer:?} for {wanted:?}, first difference at {place:?}; text\n{}\ngiven\n{given}\nexpected\n{expected}", words(text));
-    }
-    let length = wanted.inspect_err(|_| assert!(given == DIRT[..places], "a refusal touched the buffer"))?;
-    assert!(given[length..] == DIRT[length..places], "bytes beyond the report");
-    given.truncate(length);
-    assert!(has_the_form_of_a_report(&given), "{}", words(&given));
-    Ok(given)
-}
-
-/// The same with the shortest buffer.
-fn compare(text: &[u8]) -> Result<Vec<u8>, u8> {
-    compare_in(text, SHORTEST_BUFFER)
-}
-
-/// Whole lines of 83 columns, the title, one end.
-fn has_the_form_of_a_report(report: &[u8]) -> bool {
-    let shaped = report.chunks(LINE).all(|one| one.len() == LINE && one[83] == b'\n' && one[..83].is_ascii());
-    let ends = report.chunks(LINE).filter(|one| one.starts_with(b"CLO") || one.starts_with(b"OPN")).count();
-    shaped && report.starts_with(&filled("REDUCED LEVELS")) && ends == 1
-}
 
 /// The report's lines, each filled with blanks to 83 columns.
 fn pages(lines: &[&str]) -> Vec<u8> {
@@ -76,7 +27,7 @@ fn field(line: &[u8], k: usize) -> i64 {
 #[test]
 fn the_examples() {
     for example in examples() {
-        assert_eq!(words(&compare(&example.book).unwrap()), words(&example.report), "{}", example.name);
+        assert_eq!(words(&report(&example.book).unwrap()), words(&example.report), "{}", example.name);
     }
 }
 
@@ -93,7 +44,7 @@ fn twenty_thousand_books() {
                 damage(&mut random, &mut text);
             }
         }
-        let Ok(report) = compare(&text) else { continue };
+        let Ok(report) = report(&text) else { continue };
         let spur = text.chunks(LINE).map(|one| &one[..one.len().min(3)]).find(|&one| one == b"LIN" || one == b"SPR") == Some(b"SPR");
         for line in report.chunks(LINE) {
             match &line[..3] {
@@ -122,9 +73,9 @@ fn rubbish_with_and_without_a_heading() {
     let refused = pages(&["REDUCED LEVELS", "REF       1       1", "OPN       0"]);
     for _ in 0..1_000 {
         let mut text = rubbish(&mut random, 2_000);
-        assert_eq!(compare(&text), Ok(refused.clone()));
+        assert_eq!(report(&text), Ok(refused.clone()));
         text.splice(0..0, heading());
-        compare(&text).unwrap();
+        report(&text).unwrap();
     }
 }
 
@@ -133,13 +84,13 @@ fn the_first_line() {
     let refused = Ok(pages(&["REDUCED LEVELS", "REF       1       1", "OPN       0"]));
     let whole = book("case-a");
     for text in [&b""[..], &whole[..83], &whole[84..], &[b' '; 84], &[b'x'; LONGEST_TEXT], b"LEVEL BOOK\n"] {
-        assert_eq!(compare(text), refused, "{}", words(text));
+        assert_eq!(report(text), refused, "{}", words(text));
     }
     for other in ["level book", "LEVEL  BOOK", " LEVEL BOOK", "LEVEL BOOKS", "LEVEL BOOK 2", "REDUCED LEVELS", "LIN       4       3       1"] {
-        assert_eq!(compare(&[&filled(other), &whole[84..]].concat()), refused, "{other}");
+        assert_eq!(report(&[&filled(other), &whole[84..]].concat()), refused, "{other}");
     }
-    assert_eq!(compare(&heading()), Ok(pages(&["REDUCED LEVELS", "OPN       0"])));
-    assert_eq!(compare(&[heading(), whole].concat()).unwrap()[84..168], filled("REF       2       1"));
+    assert_eq!(report(&heading()), Ok(pages(&["REDUCED LEVELS", "OPN       0"])));
+    assert_eq!(report(&[heading(), whole].concat()).unwrap()[84..168], filled("REF       2       1"));
 }
 
 #[test]
@@ -149,7 +100,7 @@ fn sixty_four_sections_in_a_text() {
         (Class::Fourth, "CLO      40  102400      64       0       0", "PNT      65  102400       0   45190"),
         (Class::Spur, "CLO       0  102400      64       0       1", "PNT      65  102400       0   45200"),
     ] {
-        let report = compare(&text_of(&sixty_four_sections(class, 64))).unwrap();
+        let report = report(&text_of(&sixty_four_sections(class, 64))).unwrap();
         assert_eq!(report.len(), 67 * LINE);
         assert_eq!(words(&report[LINE..2 * LINE]), words(&filled(closing)));
         assert_eq!(words(&report[3 * LINE..4 * LINE]), words(&filled("PNT       2    1600       0   10550")));
@@ -164,13 +115,13 @@ fn the_largest_text() {
     for (line, refusal) in [(filled(""), 1), (filled("RUN"), 2), (order_5, 3), (filled("DRR"), 21), (filled("FIN       1"), 21)] {
         let text = after_heading(&line);
         assert_eq!(text.len(), LONGEST_TEXT);
-        let report = compare(&text).unwrap();
+        let report = report(&text).unwrap();
         assert_eq!(report.len(), 778 * LINE);
         assert_eq!(report[776 * LINE..777 * LINE], filled(&format!("REF     777{refusal:>8}")));
     }
     for class in Class::ALL {
-        assert_eq!(compare(&largest_book(class)).unwrap().len(), 67 * LINE);
-        let report = compare(&refused_late(class)).unwrap();
+        assert_eq!(report(&largest_book(class)).unwrap().len(), 67 * LINE);
+        let report = report(&refused_late(class)).unwrap();
         assert_eq!(report.len(), (67 + 776 - sixty_four_sections(class, 64).len()) * LINE);
     }
     let mut random = Random::new(24);
@@ -186,7 +137,7 @@ fn the_largest_text() {
             }
         }
         calls.truncate(776);
-        compare(&text_of(&calls)).unwrap();
+        report(&text_of(&calls)).unwrap();
     }
 }
 
@@ -203,7 +154,7 @@ fn every_length() {
     let blanks = vec![b' '; 65_400];
     for length in (0..=300).chain(65_200..=65_350) {
         for text in [&long, &after_heading, &blanks] {
-            let report = compare(&text[..length]);
+            let report = report(&text[..length]);
             assert_eq!(report.err(), (length > LONGEST_TEXT).then_some(9), "{length} bytes");
         }
     }
@@ -216,15 +167,15 @@ fn every_buffer() {
     let far_too_long = vec![b' '; 1 << 20];
     for text in [b"".to_vec(), book("case-a"), largest] {
         for places in [0, 1, 83, 84, 5 * LINE, 65_352, 65_534, 65_535] {
-            assert_eq!(compare_in(&text, places), Err(10), "{places} bytes");
+            assert_eq!(report_in(&text, places), Err(10), "{places} bytes");
         }
         for places in [65_536, 65_537, 65_620, 131_072, 1 << 20] {
-            compare_in(&text, places).unwrap();
+            report_in(&text, places).unwrap();
         }
     }
     for text in [too_long, far_too_long] {
         for places in [0, 1, 65_535, 65_536, 65_537, 1 << 20] {
-            assert_eq!(compare_in(&text, places), Err(9), "{places} bytes");
+            assert_eq!(report_in(&text, places), Err(9), "{places} bytes");
         }
     }
 }
@@ -236,11 +187,11 @@ fn line_feeds_missing_doubled_or_others() {
             for other in [&b""[..], b"\n\n", b" ", b"\r", b"\r\n", b"\n\r", b"\0", b" \n", b"\n "] {
                 let mut text = whole.clone();
                 text.splice(feed..=feed, other.iter().copied());
-                compare(&text).unwrap();
+                report(&text).unwrap();
             }
         }
         for other in ["", "\n\n", "\r\n", "\r"] {
-            compare(words(&whole).replace('\n', other).as_bytes()).unwrap();
+            report(words(&whole).replace('\n', other).as_bytes()).unwrap();
         }
     }
 }
@@ -253,13 +204,13 @@ fn bytes_at_every_place() {
         for byte in *b"\0\xff \n\r\t-+.019ASk\x7f\x80\xa0" {
             let mut text = whole.clone();
             text[place] = byte;
-            compare(&text).unwrap();
+            report(&text).unwrap();
             text.insert(place, whole[place]);
-            compare(&text).unwrap();
+            report(&text).unwrap();
         }
         let mut text = whole.clone();
         text.remove(place);
-        compare(&text).unwrap();
+        report(&text).unwrap();
     }
 }
 
@@ -271,7 +222,7 @@ fn all_bytes() {
         for byte in 0..=255 {
             let mut text = whole.clone();
             text[place] = byte;
-            compare(&text).unwrap();
+            report(&text).unwrap();
         }
     }
 }

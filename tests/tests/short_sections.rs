@@ -1,14 +1,13 @@
 //! Very short sections (document 02, W-201): for D an R below 2,000 counts as 2,000, for all else it does not. Worked lists of calls, each run by the proved
 //! book and by the other implementation.
 
-use level_tests::both::{after, figures};
+use level_tests::both::{after, figures, report, words};
 use level_tests::fixed::{run_of, FIRST, SECOND};
 use level_tests::fraction::within;
 use level_tests::generate::book;
 use level_tests::opening::{closing_call, opening};
 use level_tests::plain::{Answer, Call, Reading};
 use level_tests::random::Random;
-use level_tests::report::reduce;
 use level_tests::rules::Class;
 use level_tests::station::sum_of_sights;
 use level_tests::write::{filled, text_of};
@@ -72,14 +71,6 @@ fn up_and_down(class: Class, sections: &[(i64, i64)]) -> Vec<Call> {
     calls
 }
 
-/// The report of a text by both implementations.
-fn report(calls: &[Call]) -> Vec<u8> {
-    let text = text_of(calls);
-    let report = levelbook::reduce(&text).expect("a short text");
-    assert_eq!(reduce(&text).as_ref(), Ok(&report));
-    report
-}
-
 /// 64 sections of R 16 with the largest D: t is 500,000 × 7² / 16 = 1,531,250, on a spur 500,000 × 12² / 16 = 4,500,000. A third-order T just fits CLO.
 #[test]
 fn the_largest_t() {
@@ -94,7 +85,7 @@ fn the_largest_t() {
             let (correction, height) = if k % 2 == 1 { up } else { (-up.0, 10_000) };
             expected.extend(filled(&format!("PNT{:8}{:8}{correction:8}{height:8}", k + 1, 16 * k)));
         }
-        assert_eq!(String::from_utf8(report(&calls)), String::from_utf8(expected));
+        assert_eq!(words(&report(&text_of(&calls)).unwrap()), words(&expected));
     }
 }
 
@@ -105,7 +96,8 @@ fn t_about_eight_nines() {
     for (r, t, printed) in [(7_202, 99_999_997, "99999997"), (7_201, 99_999_999, "99999999"), (7_200, 100_000_000, "99999999")] {
         let calls = up_and_down(Class::Spur, &[&others[..], &[(r, 12)]].concat());
         assert_eq!(figures(&calls)[..5], [0, 1_524 + r, 53, t, 2]);
-        assert_eq!(String::from_utf8_lossy(&report(&calls)[84..168]), format!("CLO       0{:8}      53{printed}       2{:40}\n", 1_524 + r, ""));
+        let closing = filled(&format!("CLO       0{:8}      53{printed}       2", 1_524 + r));
+        assert_eq!(words(&report(&text_of(&calls)).unwrap()[84..168]), words(&closing));
     }
 }
 

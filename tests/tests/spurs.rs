@@ -1,10 +1,9 @@
 //! Worked spurs (document 02, W-202): lists of calls, each run by the proved book and by the other implementation.
 
-use level_tests::both::{after, figures, run};
+use level_tests::both::{after, figures, report, run};
 use level_tests::fixed::{run_of, section, station, FIRST, SECOND};
 use level_tests::opening::{closing_call, opening, usual};
 use level_tests::plain::{Call, Opened};
-use level_tests::report::reduce;
 use level_tests::rules::Class;
 use level_tests::write::{filled, text_of};
 
@@ -226,7 +225,7 @@ fn lengths() {
     let text = text_of(&[opened, out.clone(), vec![end(2)], back.clone(), vec![end(1)], out, vec![end(3)], back, vec![end(2), fin(3)]].concat());
     let lines = ["REDUCED LEVELS", "CLO       0 2304000       2       0       0", "PNT       1       0       0   10000", "PNT       2 1152000       0   10000"];
     let expected = [lines.map(filled).concat(), filled("PNT       3 2304000       0   10000")].concat();
-    assert_eq!((levelbook::reduce(&text).expect("a short text"), reduce(&text)), (expected.clone(), Ok(expected)));
+    assert_eq!(report(&text), Ok(expected));
 }
 
 /// Heights outside the range of known heights: 64 sections of 590 m, down and up.
