@@ -58,6 +58,7 @@ uint8_t level_adjust(const struct level_leg *legs, size_t count, int64_t start, 
  *   2 station: K, u, l, m, r of the back staff, then fore     6 close line: number, height
  *   3 end run: number                                         7 open spur: as 1, order 4 alone
  *   4 drop run                                                8 close spur: number
+ *   9 collimation: A1, B1, A2, B2 (sums of four readings), D1, D2 (distances), in mm
  * An entry of another kind is refused with 1, and so is a rest of 1 to 10 numbers at the end, which is one entry more; nothing else of them is looked
  * at, and the book stays as it is. The answer is how many entries there are. Each entry's number goes into its place of `numbers`, the figures of the
  * book that is left into `figures`, both as far as there are places. There are LEVEL_FIGURES figures: W, L, n, T and verdict, 0 while the line is not

@@ -28,6 +28,9 @@ pub enum Call {
     OpenSpur { order: i64, instrument: i64, start: i64, height: i64 },
     /// Closes the spur on its last benchmark.
     CloseSpur { number: i64 },
+    /// Tests the level before the first station (source document 000, B13, method I1-A-B-I2), all in mm: the sums A1, B1, A2, B2 of four readings each
+    /// of staffs A and B from I1 and I2; the distances D1 and D2 of the near and the far staff.
+    Collimation { readings: [i64; 4], distances: [i64; 2] },
 }
 
 impl Call {
@@ -44,6 +47,7 @@ impl Call {
             Call::CloseLine { number, height } => [6, number, height, 0, 0, 0, 0, 0, 0, 0, 0],
             Call::OpenSpur { order, instrument, start, height } => [7, order, instrument, start, height, 0, 0, 0, 0, 0, 0],
             Call::CloseSpur { number } => [8, number, 0, 0, 0, 0, 0, 0, 0, 0, 0],
+            Call::Collimation { readings: [a1, b1, a2, b2], distances: [d1, d2] } => [9, a1, b1, a2, b2, d1, d2, 0, 0, 0, 0],
         }
     }
 }
@@ -111,12 +115,15 @@ pub struct Outcome {
 /// let outcome = run_calls(&[
 ///     Call::Open { order: 4, instrument: 3, start: 1, height: 10_000 },
 ///     first,
+///     Call::Collimation { readings: [5937, 5951, 6043, 6067], distances: [6800, 40_300] },
+///     first,
 ///     first,
 ///     second,
 ///     Call::EndRun { number: 2 },
 ///     Call::CloseLine { number: 2, height: 10_657 },
 /// ]);
-/// assert_eq!(outcome.numbers, [0, 0, 23, 0, 0, 0]);
+/// assert_eq!(outcome.numbers, [0, 46, 0, 0, 23, 0, 0, 0]);
+/// assert!(meaning(46).unwrap().starts_with("station before"));
 /// assert!(meaning(23).unwrap().starts_with("staff out of turn"));
 /// let closing = outcome.closing.unwrap();
 /// assert_eq!((closing.closure, closing.length, closing.points[1].height), (4, 2_564, 10_657));
@@ -131,6 +138,7 @@ pub struct Outcome {
 /// # let second = Call::Station { back: staff(4687, [1965, 1700, 1832, 6519]), fore: staff(4787, [2141, 1874, 2007, 6793]) };
 /// let outcome = run_calls(&[
 ///     Call::OpenSpur { order: 4, instrument: 3, start: 1, height: 10_000 },
+///     Call::Collimation { readings: [5937, 5951, 6043, 6067], distances: [6800, 40_300] },
 ///     first,
 ///     second,
 ///     Call::EndRun { number: 2 },
@@ -140,7 +148,7 @@ pub struct Outcome {
 ///     Call::CloseLine { number: 2, height: 10_657 },
 ///     Call::CloseSpur { number: 2 },
 /// ]);
-/// assert_eq!(outcome.numbers, [0, 0, 0, 0, 0, 0, 0, 41, 0]);
+/// assert_eq!(outcome.numbers, [0, 0, 0, 0, 0, 0, 0, 0, 41, 0]);
 /// let closing = outcome.closing.unwrap();
 /// assert_eq!((closing.closure, closing.length, closing.accidental), (0, 2_564, 195));
 /// assert_eq!((closing.points[1].correction, closing.points[1].height), (-1, 10_658));

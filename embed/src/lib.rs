@@ -9,6 +9,7 @@
 //! let rows = [
 //!     "LEVEL BOOK",
 //!     "LIN       4       3       1   10000",
+//!     "ANG    5937    5951    6043    6067    6800   40300",
 //!     "STA    4787    1571    1197    1384    6171    4687     739     363     551    5239",
 //!     "STA    4687    1965    1700    1832    6519    4787    2141    1874    2007    6793",
 //!     "RUN       2",
@@ -105,8 +106,8 @@ pub fn adjust(start: i64, end: i64, sections: &[Leg], heights: &mut [i64]) -> Re
 ///
 /// An entry's first number is its kind, the others are its call's arguments, and those that the call does not have are not looked at: 1 open (order,
 /// instrument, start number, start height), 2 station (K, u, l, m, r back, then fore), 3 end run (number), 4 drop run, 5 drop section, 6 close line
-/// (number, height), 7 open spur (as 1, order 4 alone), 8 close spur (number). An entry of any other kind is refused with 1, and so is a rest of 1 to 10
-/// numbers at the end, which is one entry more; nothing else of them is looked at, and the book stays as it is.
+/// (number, height), 7 open spur (as 1, order 4 alone), 8 close spur (number), 9 collimation (A1, B1, A2, B2, D1, D2). An entry of any other kind is
+/// refused with 1, and so is a rest of 1 to 10 numbers at the end, which is one entry more; nothing else of them is looked at, and the book stays as it is.
 ///
 /// The figures are W, L, n, T and verdict, each 0 while the line is not closed; of the present run its stations, the sum of twice-heights, of sights
 /// and of d; the finished sections; then number, S, correction and height of the start and each section, 0 where there is none: [`FIGURES`] numbers.
@@ -115,14 +116,15 @@ pub fn adjust(start: i64, end: i64, sections: &[Leg], heights: &mut [i64]) -> Re
 /// use levelbook::FIGURES;
 ///
 /// let open = [1, 4, 3, 1, 10_000, 0, 0, 0, 0, 0, 0];
+/// let collimation = [9, 5937, 5951, 6043, 6067, 6800, 40_300, 0, 0, 0, 0];
 /// let station = [2, 4787, 1571, 1197, 1384, 6171, 4687, 739, 363, 551, 5239];
-/// let (mut numbers, mut figures) = ([99; 3], [0; FIGURES]);
-/// let entries = levelbook::run(&[open, station, station].concat(), &mut numbers, &mut figures);
-/// assert_eq!((entries, numbers), (3, [0, 0, 23]));
+/// let (mut numbers, mut figures) = ([99; 4], [0; FIGURES]);
+/// let entries = levelbook::run(&[open, collimation, station, station].concat(), &mut numbers, &mut figures);
+/// assert_eq!((entries, numbers), (4, [0, 0, 0, 23]));
 /// assert_eq!(figures[5..10], [1, 1665, 750, -2, 0]);
-/// let unknown_kind_and_rest = [9; levelbook::CALL_NUMBERS + 4];
+/// let unknown_kind_and_rest = [10; levelbook::CALL_NUMBERS + 4];
 /// assert_eq!(levelbook::run(&unknown_kind_and_rest, &mut numbers[..1], &mut figures), 2);
-/// assert_eq!(numbers, [1, 0, 23]);
+/// assert_eq!(numbers, [1, 0, 0, 23]);
 /// ```
 pub fn run(calls: &[i64], numbers: &mut [u8], figures: &mut [i64]) -> usize {
     // SAFETY: slices of every length are taken, each as a pointer and a length; the first is read and the others written within their lengths.
