@@ -10,10 +10,10 @@ pub fn said(name: &str) -> &'static str {
     match name {
         "largest" => "777 lines, fourth order, 64 sections, closed",
         "third" => "777 lines, third order, 64 sections out and back, closed",
-        "late" => "777 lines, fourth order, 64 sections in the first 194, then refused ends of runs, closed",
+        "late" => "777 lines, fourth order, 64 sections in the first 195, then refused ends of runs, closed",
         "refusals" => "777 lines, 776 stations on a book never opened",
         "blank" => "777 lines, 776 of them blank",
-        _ => "9 lines, 2 sections, closed",
+        _ => "10 lines, 2 sections, closed",
     }
 }
 

@@ -18,6 +18,12 @@ pub fn station(back_k: i64, sights: [i64; 2], twice: i64) -> Call {
     Call::Station { back_k, fore_k, readings: [staff(back_k, sights[0], fore + rise, 0), staff(fore_k, sights[1], fore, e)] }
 }
 
+/// A level station, back staff first, with these e.
+pub fn faces(back_e: i64, fore_e: i64) -> Call {
+    let staff = |k: i64, e: i64| [1_600, 1_400, 1_500, k + 1_500 - e];
+    Call::Station { back_k: FIRST, fore_k: SECOND, readings: [staff(FIRST, back_e), staff(SECOND, fore_e)] }
+}
+
 /// A run with these twice-heights, a station each; the fore sight of its first station is `short` dm below the other sights.
 pub fn run_of(first_k: i64, sight: i64, short: i64, heights: &[i64]) -> Vec<Call> {
     let staffs = [first_k, FIRST + SECOND - first_k].into_iter().cycle();

@@ -16,7 +16,7 @@ pub enum Kind {
     Loop,
     /// About 20 sections out and back with T about its limit.
     Verdict,
-    /// About as many sections as a line may have, and some above; one in four with the shortest
+    /// About as many sections as a line may have, and some above; one in two with the shortest
     /// sights.
     Many,
     /// A length at or beyond its limit, for a spur up to 500 km, runs of 200 stations.
@@ -91,7 +91,7 @@ fn style(random: &mut Random, kind: Kind) -> Style {
         (Kind::Long, _) => most - 10,
         (Kind::Deep | Kind::Steep, _) => 12,
         (Kind::Verdict, _) => random.between(60, 400),
-        (Kind::Many, 0) => SHORTEST_SIGHT,
+        (Kind::Many, 0 | 1) => SHORTEST_SIGHT,
         (_, 0) => random.between(2, 20),
         (_, 1) => random.between(most - 40, most),
         _ => random.between(20, 400),

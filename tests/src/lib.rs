@@ -1,13 +1,16 @@
 //! Another implementation of the levelling book, written from documents 01 and 02 alone; the tests compare the proved one with it.
 //!
-//! The other implementation: `fraction`, `station`, `rules`, `plain`, `standing`, `closing`, `adjust`, `figures`, and for texts `text`, `write`, `report`.
-//! Inputs for comparisons: `random`, `lent`, `examples`, `opening`, `fixed`, for lists of calls `wished`, `caller`, `at_limits`, `mistakes`, `work`,
+//! The other implementation: `fraction`, `station`, `collimation`, `rules`, `plain`, `standing`, `closing`, `adjust`, `figures`, and for texts `text`,
+//! `write`, `report`.
+//! Inputs for comparisons: `random`, `lent`, `examples`, `opening`, `fixed`, for lists of calls `wished`, `angles`, `caller`, `at_limits`, `mistakes`, `work`,
 //! `generate`, `mutate`, and for texts `damage`, `largest`. Both implementations on one of them: `both`.
 
 pub mod adjust;
+pub mod angles;
 pub mod at_limits;
 pub mod both;
 pub mod closing;
+pub mod collimation;
 pub mod damage;
 pub mod examples;
 pub mod figures;

@@ -24,7 +24,8 @@ impl Caller<'_> {
             6 => self.doubtful_opening(),
             7..=9 => self.doubtful_closing(),
             10..=11 => any_call(self.random),
-            12..=29 => self.station_at_a_limit(goal),
+            12 => self.doubtful_collimation(),
+            13..=29 => self.station_at_a_limit(goal),
             _ => self.spoilt_station(goal),
         };
         self.put(call);

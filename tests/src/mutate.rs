@@ -1,13 +1,13 @@
 //! Random changes of a list of calls: arguments at range limits, extreme values,
 //! calls lost, doubled or out of place, a line's calls for a spur's.
 
-use crate::opening::usual;
+use crate::opening::{usual, TABLE_B7};
 use crate::plain::{Call, Opened};
 use crate::random::Random;
 use crate::wished::CONSTANTS;
 
-/// Values around the limits that document 01 names, and extreme ones.
-const ODD_VALUES: [i64; 36] = [
+/// Values around the limits that documents 01 and 02 name, and extreme ones.
+const ODD_VALUES: [i64; 46] = [
     0,
     1,
     2,
@@ -32,6 +32,16 @@ const ODD_VALUES: [i64; 36] = [
     4_688,
     4_787,
     4_788,
+    12_000,
+    12_001,
+    4_999,
+    5_000,
+    7_000,
+    7_001,
+    39_999,
+    40_000,
+    50_000,
+    50_001,
     99_999_999,
     -9_999_999,
     i64::MAX,
@@ -61,6 +71,7 @@ pub fn arguments(call: &mut Call) -> Vec<&mut i64> {
         Call::EndRun(number) | Call::CloseSpur(number) => vec![number],
         Call::DropRun | Call::DropSection => vec![],
         Call::CloseLine { number, height } => vec![number, height],
+        Call::Collimation(values) => values.iter_mut().collect(),
     }
 }
 
@@ -78,7 +89,7 @@ pub fn any_call(random: &mut Random) -> Call {
     let k = *random.pick(&CONSTANTS);
     let m = random.between(1, 2_999);
     let staff = [m + 1, m - 1, m, m + k];
-    let mut call = match random.below(8) {
+    let mut call = match random.below(9) {
         0 => Call::Open(Opened { height: 0, ..usual(3) }),
         1 => Call::Station {
             back_k: k,
@@ -90,6 +101,7 @@ pub fn any_call(random: &mut Random) -> Call {
         4 => Call::DropSection,
         5 => Call::OpenSpur(Opened { height: 0, ..usual(4) }),
         6 => Call::CloseSpur(1),
+        7 => Call::Collimation(TABLE_B7),
         _ => Call::CloseLine { number: 1, height: 0 },
     };
     for argument in arguments(&mut call) {

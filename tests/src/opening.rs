@@ -1,4 +1,4 @@
-//! How a book's line or spur is opened and closed: what tests and benchmarks begin their books with is made here.
+//! How a book's line or spur is opened, its level tested, and how it is closed: what tests and benchmarks begin their books with is made here.
 
 use crate::plain::{Call, Opened};
 use crate::rules::Class;
@@ -7,6 +7,9 @@ use crate::rules::Class;
 pub fn usual(order: i64) -> Opened {
     Opened { order, instrument: 3, start: 1, height: 10_000 }
 }
+
+/// A1, B1, A2, B2, D1, D2 of source document 000, Table B7.
+pub const TABLE_B7: [i64; 6] = [5_937, 5_951, 6_043, 6_067, 6_800, 40_300];
 
 /// The call that opens; the order is the class's, whatever the values have.
 pub fn opening_call(class: Class, opened: Opened) -> Call {
@@ -19,7 +22,7 @@ pub fn opening_call(class: Class, opened: Opened) -> Call {
 
 /// The calls after which a line has nothing in its lists and takes stations.
 pub fn opening_of(class: Class, opened: Opened) -> Vec<Call> {
-    vec![opening_call(class, opened)]
+    vec![opening_call(class, opened), Call::Collimation(TABLE_B7)]
 }
 
 pub fn opening(class: Class) -> Vec<Call> {

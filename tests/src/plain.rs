@@ -1,6 +1,6 @@
 //! The plain reading of a list of calls (document 01, "Runs, sections and the
 //! standing list"): lists of stations, and every rule read over these lists. The
-//! closing calls are in `closing`.
+//! closing calls are in `closing`, the test of the level in `collimation`.
 
 use crate::closing::Closing;
 use crate::rules::{self, Class};
@@ -18,6 +18,8 @@ pub enum Call {
     CloseLine { number: i64, height: i64 },
     OpenSpur(Opened),
     CloseSpur(i64),
+    /// A1, B1, A2, B2, D1, D2.
+    Collimation([i64; 6]),
 }
 
 #[derive(Clone, Debug, PartialEq, Eq)]
@@ -82,13 +84,15 @@ pub struct Waiting {
     pub outward: Vec<Station>,
 }
 
-/// What the plain reading keeps; a spur is closed without an end height.
+/// What the plain reading keeps; a spur is closed without an end height. `collimated` is whether
+/// a test of the level was taken.
 #[derive(Clone, Debug, PartialEq, Eq)]
 pub struct Reading {
     pub stage: Stage,
     pub class: Option<Class>,
     pub opened: Option<Opened>,
     pub end_height: Option<i64>,
+    pub collimated: bool,
     pub sections: Vec<Section>,
     pub waiting: Option<Waiting>,
     pub run: Vec<Station>,
@@ -118,6 +122,7 @@ impl Reading {
             class: None,
             opened: None,
             end_height: None,
+            collimated: false,
             sections: Vec::new(),
             waiting: None,
             run: Vec::new(),
@@ -143,6 +148,7 @@ impl Reading {
                 return self.close_line(number, height).map(Answer::Closed)
             }
             Call::CloseSpur(number) => return self.close_spur(number).map(Answer::Closed),
+            Call::Collimation(values) => self.collimation(&values)?,
         }
         Ok(Answer::Taken)
     }
@@ -165,6 +171,7 @@ impl Reading {
         refuse_if(!station.threads_ordered(), 8)?;
         let (_, opened) = self.open_line()?;
         refuse_if(self.loop_is_shut(), 21)?;
+        refuse_if(!self.collimated, 46)?;
         refuse_if(self.run.len() >= rules::STATIONS_OF_A_RUN, 22)?;
         refuse_if(!self.in_turn(station.back_k), 23)?;
         let limits = rules::limits(opened.order, opened.instrument);

@@ -1,5 +1,5 @@
-//! The text book (document 01, "The text book and the report"; document 02, W-202), read
-//! from any bytes.
+//! The text book (document 01, "The text book and the report"; document 02, W-202 and W-204),
+//! read from any bytes.
 
 use crate::plain::{Call, Opened};
 
@@ -70,6 +70,7 @@ pub fn fields_of(tag: &[u8]) -> Option<usize> {
         b"END" => Some(2),
         b"SPR" => Some(4),
         b"FIN" => Some(1),
+        b"ANG" => Some(6),
         _ => None,
     }
 }
@@ -104,6 +105,7 @@ fn call(tag: &[u8], n: &[i64]) -> Call {
         b"DRR" => Call::DropRun,
         b"DRS" => Call::DropSection,
         b"FIN" => Call::CloseSpur(n[0]),
+        b"ANG" => Call::Collimation([n[0], n[1], n[2], n[3], n[4], n[5]]),
         _ => Call::CloseLine { number: n[0], height: n[1] },
     }
 }

@@ -1,13 +1,13 @@
 //! The work on a line: setting out, runs, sections, closing.
 
 use crate::mutate::any_call;
-use crate::opening::opening_of;
+use crate::opening::opening_call;
 use crate::caller::{Goal, Caller};
 use crate::plain::Call;
 use crate::rules::{Class, STATIONS_OF_A_RUN};
 
 impl Caller<'_> {
-    /// Opens the line; before and after it something may go wrong.
+    /// Opens the line and tests the level; before, between and after something may go wrong.
     pub fn set_out(&mut self) {
         let goal = Goal { stations: 2, sum: 400, twice: 0 };
         if self.mistaken() {
@@ -19,13 +19,13 @@ impl Caller<'_> {
                 _ => self.wrong_opening(),
             }
         }
-        for call in opening_of(self.style.class, self.opening_values()) {
-            self.put(call);
-        }
+        let opening = opening_call(self.style.class, self.opening_values());
+        self.put(opening);
         if self.mistaken() {
             let again = self.doubtful_opening();
             self.put(again);
         }
+        self.collimate();
     }
 
     /// An opening with one or two bad arguments; a spur's order 3 is one.
@@ -137,12 +137,13 @@ impl Caller<'_> {
     pub fn afterwards(&mut self) {
         let goal = Goal { stations: 2, sum: 400, twice: 0 };
         for _ in 0..self.random.below(4) {
-            let call = match self.random.below(6) {
+            let call = match self.random.below(7) {
                 0 => self.doubtful_opening(),
                 1 => self.doubtful_closing(),
                 2 => Call::EndRun(self.doubtful_number()),
                 3 => self.random.pick(&[Call::DropRun, Call::DropSection]).clone(),
                 4 => any_call(self.random),
+                5 => self.doubtful_collimation(),
                 _ => {
                     self.good_station(&goal);
                     continue;

@@ -6,6 +6,7 @@ use level_tests::closing::{Closing, Point};
 use level_tests::figures::{figures_of, read, FIGURES};
 use level_tests::generate::book;
 use level_tests::mutate::any_call;
+use level_tests::opening::opening;
 use level_tests::plain::{Call, Opened, Reading};
 use level_tests::random::Random;
 use level_tests::rules::Class;
@@ -30,6 +31,7 @@ fn typed(call: &Call) -> levelbook::Call {
         Call::CloseLine { number, height } => levelbook::Call::CloseLine { number, height },
         Call::OpenSpur(Opened { order, instrument, start, height }) => levelbook::Call::OpenSpur { order, instrument, start, height },
         Call::CloseSpur(number) => levelbook::Call::CloseSpur { number },
+        Call::Collimation([a1, b1, a2, b2, d1, d2]) => levelbook::Call::Collimation { readings: [a1, b1, a2, b2], distances: [d1, d2] },
     }
 }
 
@@ -52,7 +54,7 @@ fn compare_typed(calls: &[Call], numbers: &[u8], reading: &Reading, closed: &Opt
 
 /// A kind that is no call's.
 fn no_kind(random: &mut Random) -> i64 {
-    *random.pick(&[0, 9, 10, -1, -2, 257, 258, (1 << 32) + 1, (1 << 62) + 2, i64::MAX, i64::MIN, i64::MIN + 3])
+    *random.pick(&[0, 10, 11, -1, -2, 257, 265, (1 << 32) + 1, (1 << 62) + 2, i64::MAX, i64::MIN, i64::MIN + 3])
 }
 
 /// A list over another's first places, as far as it has places.
@@ -124,17 +126,20 @@ fn hundred_thousand_lists() {
         assert!(counts.get(&number).is_some_and(|&count| count >= 20), "too few of {number}: {counts:?}");
     }
     assert_eq!(counts.get(&20), None);
-    assert!(counts[&41] >= 5_000, "too few of 41: {counts:?}");
+    for number in [41, 44, 45, 46] {
+        assert!(counts[&number] >= 5_000, "too few of {number}: {counts:?}");
+    }
     assert!(counts[&CLOSED] >= 20_000 && counts[&SPUR_CLOSED] >= 10_000, "too few closings: {counts:?}");
 }
 
-/// Calls whose arguments are anything, in any order.
+/// Calls whose arguments are anything, in any order, one in two lists after an opening.
 #[test]
 fn lists_of_any_calls() {
     let mut random = Random::new(16_112_026);
     let mut counts = BTreeMap::new();
     for _ in 0..20_000 {
-        let calls: Vec<Call> = (0..random.below(30)).map(|_| any_call(&mut random)).collect();
+        let mut calls = if random.chance(1, 2) { opening(*random.pick(&Class::ALL)) } else { Vec::new() };
+        calls.extend((0..random.below(30)).map(|_| any_call(&mut random)));
         compare(&mut random, &calls, &mut counts);
     }
     assert_eq!(counts.get(&20), None);

@@ -7,7 +7,7 @@ use level_tests::examples::{book, examples};
 use level_tests::generate::{line, Kind};
 use level_tests::largest::{after_heading, blank_lines, largest_book, refused_late, sixty_four_sections};
 use level_tests::mutate::any_call;
-use level_tests::opening::{opening, usual};
+use level_tests::opening::{opening, usual, TABLE_B7};
 use level_tests::plain::Call;
 use level_tests::random::Random;
 use level_tests::rules::Class;
@@ -60,9 +60,9 @@ fn twenty_thousand_books() {
     println!("spur first  verdict  closed");
     verdicts.iter().for_each(|((spur, verdict), count)| println!("{spur:10} {verdict:8} {count:7}"));
     println!("{large} with a T above 99,999,999\nrefusal  text lines");
-    (1..=41).for_each(|number| println!("{number:7} {:11}", refusals.get(&number).unwrap_or(&0)));
-    assert!(refusals.keys().copied().eq((1..=8).chain(21..=36).chain([41])), "{refusals:?}");
-    assert!(refusals[&41] >= 500, "too few of 41: {refusals:?}");
+    (1..=46).for_each(|number| println!("{number:7} {:11}", refusals.get(&number).unwrap_or(&0)));
+    assert!(refusals.keys().copied().eq((1..=8).chain(21..=36).chain([41, 44, 45, 46])), "{refusals:?}");
+    assert!([41, 44, 45, 46].iter().all(|number| refusals[number] >= 500), "too few: {refusals:?}");
     assert_eq!(verdicts.len(), 6, "each verdict of lines and of spurs: {verdicts:?}");
     assert!(large >= 10, "too few of a large T: {large}");
 }
@@ -111,8 +111,8 @@ fn sixty_four_sections_in_a_text() {
 /// 777 lines: all refused but the heading; all taken; 64 sections with refused lines before the end; and any calls after a long line's.
 #[test]
 fn the_largest_text() {
-    let order_5 = line_of(&Call::Open(usual(5))).unwrap();
-    for (line, refusal) in [(filled(""), 1), (filled("RUN"), 2), (order_5, 3), (filled("DRR"), 21), (filled("FIN       1"), 21)] {
+    let [order_5, ang] = [Call::Open(usual(5)), Call::Collimation(TABLE_B7)].map(|call| line_of(&call).unwrap());
+    for (line, refusal) in [(filled(""), 1), (filled("RUN"), 2), (order_5, 3), (filled("DRR"), 21), (filled("FIN       1"), 21), (ang, 21)] {
         let text = after_heading(&line);
         assert_eq!(text.len(), LONGEST_TEXT);
         let report = report(&text).unwrap();

@@ -1,8 +1,8 @@
 //! Worked spurs (document 02, W-202): lists of calls, each run by the proved book and by the other implementation.
 
 use level_tests::both::{after, figures, report, run};
-use level_tests::fixed::{run_of, section, station, FIRST, SECOND};
-use level_tests::opening::{closing_call, opening, usual};
+use level_tests::fixed::{faces, run_of, section, station, FIRST, SECOND};
+use level_tests::opening::{closing_call, opening, opening_of, usual};
 use level_tests::plain::{Call, Opened};
 use level_tests::rules::Class;
 use level_tests::write::{filled, text_of};
@@ -38,8 +38,8 @@ fn heights_and_corrections() {
         (-10, [(-8, -2), (-5, 2), (-2, 2)]),
         (-3, [(0, 2), (2, -2), (4, -2)]),
     ] {
-        let opened = Call::OpenSpur(Opened { height: start, ..usual(4) });
-        let figures = figures(&[vec![opened], sections(3), vec![fin(4)]].concat());
+        let opened = opening_of(Class::Spur, Opened { height: start, ..usual(4) });
+        let figures = figures(&[opened, sections(3), vec![fin(4)]].concat());
         assert_eq!(figures[..10], [0, 15_000, 3, 30_000, 0, 0, 0, 0, 0, 3]);
         let [a, b, c] = points;
         assert_eq!(figures[10..26], [1, 0, 0, start, 2, 5_000, a.1, a.0, 3, 10_000, b.1, b.0, 4, 15_000, c.1, c.0]);
@@ -66,13 +66,8 @@ fn out_and_back_on_the_limit() {
 /// A station is judged as at fourth order.
 #[test]
 fn stations() {
-    let faces = |back_e: i64, fore_e: i64| Call::Station {
-        back_k: FIRST,
-        fore_k: SECOND,
-        readings: [[1_600, 1_400, 1_500, FIRST + 1_500 - back_e], [1_600, 1_400, 1_500, SECOND + 1_500 - fore_e]],
-    };
     for (instrument, sight) in [(3, 1_000), (1, 1_500)] {
-        let opened = Call::OpenSpur(Opened { instrument, ..usual(4) });
+        let opened = opening_of(Class::Spur, Opened { instrument, ..usual(4) });
         for (call, number) in [
             (station(FIRST, [sight, sight], 0), 0),
             (station(FIRST, [sight + 1, sight], 0), 24),
@@ -82,7 +77,7 @@ fn stations() {
             (faces(4, 0), 27),
             (faces(3, -3), 28),
         ] {
-            assert_eq!(after(&[opened.clone()], &[call.clone()]), [number], "{call:?}");
+            assert_eq!(after(&opened, &[call.clone()]), [number], "{call:?}");
         }
     }
     let far = run_of(FIRST, 500, 25, &[0]).into_iter().chain([station(SECOND, [500, 475], 0), station(FIRST, [500, 475], 0), station(SECOND, [500, 474], 0)]);
@@ -213,7 +208,7 @@ fn long_sections(n: i64, sight: i64, twice: i64) -> Vec<Call> {
 /// 120, 180, 240, 540 and 3,840 km: no length is too long.
 #[test]
 fn lengths() {
-    let opened = vec![Call::OpenSpur(Opened { instrument: 1, ..usual(4) })];
+    let opened = opening_of(Class::Spur, Opened { instrument: 1, ..usual(4) });
     for n in [2, 3, 4, 9, 64] {
         let figures = figures(&[opened.clone(), long_sections(n, 1_500, 0), vec![fin(n + 1)]].concat());
         let verdict = if n < 20 { 0 } else { 1 };
@@ -232,8 +227,8 @@ fn lengths() {
 #[test]
 fn heights_beyond_the_range() {
     for (start, twice) in [(-999_999, -5_900), (8_999_999, 5_900)] {
-        let opened = Call::OpenSpur(Opened { height: start, ..usual(4) });
-        let figures = figures(&[vec![opened], long_sections(64, 20, twice), vec![fin(65)]].concat());
+        let opened = opening_of(Class::Spur, Opened { height: start, ..usual(4) });
+        let figures = figures(&[opened, long_sections(64, 20, twice), vec![fin(65)]].concat());
         assert_eq!(figures[..5], [0, 64 * 16_000, 64, 0, 1]);
         assert_eq!(figures[266..], [65, 64 * 16_000, 0, start + 64 * 100 * twice]);
     }

@@ -63,6 +63,7 @@ fn every_tag_gives_its_call() {
         (line("DRS", &[]), Call::DropSection),
         (line("END", &[3, -5]), Call::CloseLine { number: 3, height: -5 }),
         (line("FIN", &[3]), Call::CloseSpur(3)),
+        (line("ANG", &[1, -2, 3, 4, 5, 99_999_999]), Call::Collimation([1, -2, 3, 4, 5, 99_999_999])),
     ];
     for (written, call) in calls {
         assert_eq!(parse_line(&written.unwrap()), Ok(call));
@@ -71,7 +72,7 @@ fn every_tag_gives_its_call() {
 
 #[test]
 fn one_comes_before_two() {
-    let cases: [(&str, u8); 17] = [
+    let cases: [(&str, u8); 21] = [
         ("RUN        ", 2),
         ("RUN       x", 2),
         ("RUN       xx", 1),
@@ -89,6 +90,10 @@ fn one_comes_before_two() {
         ("FIN       3       0", 1),
         ("FIN", 2),
         ("fin       3", 1),
+        ("ANG    5937    5951    6043    6067    6800", 2),
+        ("ANG            5951    6043    6067    6800   40300", 2),
+        ("ANG    5937    5951    6043    6067    6800   40300       0", 1),
+        ("ANG    5937    5951    6043    6067    6800   4030O       0", 1),
     ];
     for (words, refusal) in cases {
         assert_eq!(parse_line(&filled(words)), Err(refusal), "{words:?}");
