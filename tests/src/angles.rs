@@ -57,7 +57,7 @@ impl Caller<'_> {
         }
     }
 
-    /// A test within 20 seconds, right on the limit now and then.
+    /// A test within 20 seconds, with the last U that is now and then.
     fn collimation_within(&mut self) -> Call {
         let distances = any_distances(self.random);
         let (least, largest) = limits_of_u(distances);
