@@ -14,7 +14,7 @@ use Rattle.adjust.specs.Sections.{sectionsOf, misfit, heightInRange}
 use Rattle.adjust.specs.Line.{Closing}
 use Rattle.adjust.specs.Frames.{noPoint, figuresFit}
 use Rattle.rules.specs.declared.Book.{Book}
-use Rattle.rules.specs.Standing.{standingOf, isClosed, isEmpty, isReturn, lineBroken}
+use Rattle.rules.specs.LineState.{stateOf, isClosed, isEmpty, isReturn, lineBroken}
 use Rattle.rules.specs.Rules.{Call, close-line, close-spur, brokenIn, figuresTests, bookRefusal}
 use Rattle.rules.proofs.Tables.{book-fails}
 use Rattle.rules.proofs.Unbroken.{unbroken, some-long, closed-some}
@@ -45,14 +45,14 @@ module _ (n : ℕ) (gave : Closing) where
 pub closes : (b : Book) (c : Call) {r : CloseOutcome} → r ≡ closeOutcome b c → Closes b c r
 unfolding closeOutcome
 closes b c e =
-    let n : ℕ = bookRefusal (standingOf b) c in
+    let n : ℕ = bookRefusal (stateOf b) c in
     let g : Closing = closedBy b c in
     (e, (ap (λ (o : CloseOutcome). closeNumber (o .answer)) e ∙ number-told n g, ap (λ (o : CloseOutcome). closeValues (o .answer)) e ∙ values-told n g))
 
 pub tells : (b : Book) {r : ClosedFigures} → r ≡ figuresOf b → Tells b r
 unfolding figuresOf
 tells b e =
-    let g : Closing = closingOf (standingOf b) in
+    let g : Closing = closingOf (stateOf b) in
     (e, (ap (λ (o : ClosedFigures). closeNumber (o .answer)) e ∙ number-told (figuresRefusal b) g, ap (λ (o : ClosedFigures). closeValues (o .answer)) e ∙ values-told (figuresRefusal b) g))
 
 -- ---- the figures fit
@@ -62,7 +62,7 @@ module _ (b : Book) where
   ss = sectionsOf (b .sections)
 
   -- where 20 does not hold of the line and its sections, and there is a section
-  in-range : (end : ℤ) → brokenIn true (standingOf b) ≡ false → isEmpty ss ≡ false → heightInRange end ≡ true → figuresFit (b .line .opening .start .height) end ss ≡ true
+  in-range : (end : ℤ) → brokenIn true (stateOf b) ≡ false → isEmpty ss ≡ false → heightInRange end ≡ true → figuresFit (b .line .opening .start .height) end ss ≡ true
   unfolding figuresFit
   in-range end e some known =
       let fit = or-l (misfit ss) (lineBroken (b .line) (length ss)) e in
@@ -70,20 +70,20 @@ module _ (b : Book) where
       λ i. some-long ss some i && not (fit i) && line .start i && known i
 
   -- of a closing that is taken
-  pub closing-fits : (number end : ℤ) → bookRefusal (standingOf b) (close-line number end) ≡ 0 → figuresFit (b .line .opening .start .height) end ss ≡ true
+  pub closing-fits : (number end : ℤ) → bookRefusal (stateOf b) (close-line number end) ≡ 0 → figuresFit (b .line .opening .start .height) end ss ≡ true
   closing-fits number end taken =
-      let test = book-fails (standingOf b) (close-line number end) taken in
+      let test = book-fails (stateOf b) (close-line number end) taken in
       in-range end (test 20) (or-r (not (eqb (b .line .present .count) 0) || isReturn (b .line .waiting)) (isEmpty ss) (test 33)) (not-false (heightInRange end) (test 5))
 
   -- of a spur's, whose end height stays a placeholder
-  pub spur-fits : (number : ℤ) → bookRefusal (standingOf b) (close-spur number) ≡ 0 → figuresFit (b .line .opening .start .height) (pos 0) ss ≡ true
+  pub spur-fits : (number : ℤ) → bookRefusal (stateOf b) (close-spur number) ≡ 0 → figuresFit (b .line .opening .start .height) (pos 0) ss ≡ true
   spur-fits number taken =
-      let test = book-fails (standingOf b) (close-spur number) taken in
+      let test = book-fails (stateOf b) (close-spur number) taken in
       in-range (pos 0) (test 20) (or-r (not (eqb (b .line .present .count) 0) || isReturn (b .line .waiting)) (isEmpty ss) (test 33)) refl
 
   -- of a closed book
   pub closed-fits : figuresRefusal b ≡ 0 → figuresFit (b .line .opening .start .height) (b .line .end) ss ≡ true
   closed-fits e =
-      let test = failed (figuresTests (standingOf b)) refl e in
+      let test = failed (figuresTests (stateOf b)) refl e in
       let line = unbroken (b .line) (length ss) (or-r (misfit ss) (lineBroken (b .line) (length ss)) (test 20)) in
       in-range (b .line .end) (test 20) (closed-some (b .line) ss (line .placed) (not-false (isClosed (b .line .stage)) (test 21))) (line .end)

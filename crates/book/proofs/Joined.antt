@@ -25,7 +25,7 @@ use Rattle.rules.specs.declared.Line.{Line}
 use Rattle.rules.specs.declared.Book.{Book}
 use Rattle.rules.specs.declared.Waiting.{Waiting}
 use Rattle.rules.specs.declared.Waiting.the-variants.{Nothing, Outward}
-use Rattle.rules.specs.Standing.{Standing, standingOf, bookWith, isFresh, isEmpty, isReturn, outwardOrReturn, noRun, oneWay, bothWays}
+use Rattle.rules.specs.LineState.{LineState, stateOf, bookWith, isFresh, isEmpty, isReturn, outwardOrReturn, noRun, oneWay, bothWays}
 use Rattle.rules.specs.Rules.{Call, open-line, station, end-run, drop-run, drop-section, close-line, open-spur, close-spur, collimation, withRuns, withSection, bookRefusal, taken}
 use Rattle.rules.proofs.Tables.{book-fails, line-whole}
 use Rattle.rules.proofs.Unbroken.{SmallWaiting, Unbroken, unbroken, fresh-none}
@@ -63,15 +63,15 @@ stored-sections s x w = go (stores x (s .count)) refl
 
 -- ---- a call that is taken finds the line unbroken
 
-pub whole-line : (b : Book) (c : Call) → bookRefusal (standingOf b) c ≡ 0 → Unbroken (b .line) (b .sections .count)
-whole-line b c e = unbroken (b .line) (b .sections .count) (sym (counted-broken (b .line) (b .sections)) ∙ line-whole (standingOf b) c e)
+pub whole-line : (b : Book) (c : Call) → bookRefusal (stateOf b) c ≡ 0 → Unbroken (b .line) (b .sections .count)
+whole-line b c e = unbroken (b .line) (b .sections .count) (sym (counted-broken (b .line) (b .sections)) ∙ line-whole (stateOf b) c e)
 
 -- ---- the end of a run
 
 -- what it changes, by what waits and by whether sections are levelled out and back
 abbrev pub endedBy : Line → ℤ → Waiting → Bool → Change
 endedBy l number w t =
-    let v : Standing =
+    let v : LineState =
     outwardOrReturn w
     (cond t (record { line = withRuns l (Outward number (l .present)) noRun; sections = [] }) (withSection (record { line = l; sections = [] }) (oneWay number (l .present))))
     (λ outward run. withSection (record { line = l; sections = [] }) (bothWays outward run (l .present))) in
@@ -92,15 +92,15 @@ module _ (b : Book) (w : Whole (b .sections)) where
   ss = sectionsOf (b .sections)
 
   -- a change of the line alone keeps arrays that hold their own list
-  line-alone : (v : Standing) → b .sections .count ≤ 64 → ss ≡ v .sections → record { line = v .line; sections = b .sections } ≡ bookWith b v
+  line-alone : (v : LineState) → b .sections .count ≤ 64 → ss ≡ v .sections → record { line = v .line; sections = b .sections } ≡ bookWith b v
   line-alone v h e = λ i. record { line = v .line; sections = (sym (holding-own (b .sections) w h) ∙ ap (holding (b .sections)) e) i }
 
   -- the end of a run, by what waits and by whether sections are levelled out and back
   ended : (number : ℤ) (x : Waiting) (t : Bool) → b .sections .count < 64
       → changed b (endedBy (b .line) number x t)
       ≡ bookWith b (outwardOrReturn x (cond t (record { line = withRuns (b .line) (Outward number (b .line .present)) noRun; sections = ss })
-      (withSection (standingOf b) (oneWay number (b .line .present))))
-      (λ outward run. withSection (standingOf b) (bothWays outward run (b .line .present))))
+      (withSection (stateOf b) (oneWay number (b .line .present))))
+      (λ outward run. withSection (stateOf b) (bothWays outward run (b .line .present))))
   ended number Nothing true h = line-alone (record { line = withRuns (b .line) (Outward number (b .line .present)) noRun; sections = ss }) (omega arith) refl
   ended number Nothing false h =
       λ i. record { line = withRuns (b .line) Nothing noRun; sections = cond (lt-ltb (b .sections .count) 64 h i) (holding (b .sections) (ss ++ (oneWay number (b .line .present) ∷ []))) (b .sections) }
@@ -112,41 +112,41 @@ module _ (b : Book) (w : Whole (b .sections)) where
   room Nothing h e = omega (arith, from-length (b .sections) 0 (b .sections .count), nleb→lt 64 (length ss) (fails e))
   room (Outward outward run) h e = h .1
 
-  effect : (c : Call) → bookRefusal (standingOf b) c ≡ 0 → changed b (effectOf (b .line) c) ≡ bookWith b (taken (standingOf b) c)
+  effect : (c : Call) → bookRefusal (stateOf b) c ≡ 0 → changed b (effectOf (b .line) c) ≡ bookWith b (taken (stateOf b) c)
   unfolding effectOf
   effect (open-line order instrument number height) e =
       let c = open-line order instrument number height in
-      let fresh = not-false (isFresh (b .line .stage)) (book-fails (standingOf b) c e 21) in
-      line-alone (taken (standingOf b) c) (whole-line b c e .few) (fresh-none (b .line) ss (line-whole (standingOf b) c e) fresh)
-  effect (station kb kf readings) e = line-alone (taken (standingOf b) (station kb kf readings)) (whole-line b (station kb kf readings) e .few) refl
+      let fresh = not-false (isFresh (b .line .stage)) (book-fails (stateOf b) c e 21) in
+      line-alone (taken (stateOf b) c) (whole-line b c e .few) (fresh-none (b .line) ss (line-whole (stateOf b) c e) fresh)
+  effect (station kb kf readings) e = line-alone (taken (stateOf b) (station kb kf readings)) (whole-line b (station kb kf readings) e .few) refl
   effect (end-run number) e =
-      ended number (b .line .waiting) (termsOf (b .line .opening .class) .double) (room (b .line .waiting) (whole-line b (end-run number) e .waiting) (book-fails (standingOf b) (end-run number) e 31))
-  effect drop-run e = line-alone (taken (standingOf b) drop-run) (whole-line b drop-run e .few) refl
-  effect drop-section e = line-alone (taken (standingOf b) drop-section) (whole-line b drop-section e .few) refl
+      ended number (b .line .waiting) (termsOf (b .line .opening .class) .double) (room (b .line .waiting) (whole-line b (end-run number) e .waiting) (book-fails (stateOf b) (end-run number) e 31))
+  effect drop-run e = line-alone (taken (stateOf b) drop-run) (whole-line b drop-run e .few) refl
+  effect drop-section e = line-alone (taken (stateOf b) drop-section) (whole-line b drop-section e .few) refl
   effect (open-spur order instrument number height) e =
       let c = open-spur order instrument number height in
-      let fresh = not-false (isFresh (b .line .stage)) (book-fails (standingOf b) c e 21) in
-      line-alone (taken (standingOf b) c) (whole-line b c e .few) (fresh-none (b .line) ss (line-whole (standingOf b) c e) fresh)
-  effect (collimation x) e = line-alone (taken (standingOf b) (collimation x)) (whole-line b (collimation x) e .few) refl
-  effect (close-spur number) e = line-alone (taken (standingOf b) (close-spur number)) (whole-line b (close-spur number) e .few) refl
-  effect (close-line number end) e = line-alone (taken (standingOf b) (close-line number end)) (whole-line b (close-line number end) e .few) refl
+      let fresh = not-false (isFresh (b .line .stage)) (book-fails (stateOf b) c e 21) in
+      line-alone (taken (stateOf b) c) (whole-line b c e .few) (fresh-none (b .line) ss (line-whole (stateOf b) c e) fresh)
+  effect (collimation x) e = line-alone (taken (stateOf b) (collimation x)) (whole-line b (collimation x) e .few) refl
+  effect (close-spur number) e = line-alone (taken (stateOf b) (close-spur number)) (whole-line b (close-spur number) e .few) refl
+  effect (close-line number end) e = line-alone (taken (stateOf b) (close-line number end)) (whole-line b (close-line number end) e .few) refl
 
   pub made : (c : Call) → changed b (changeOf b c) ≡ bookAfter b c
   unfolding bookAfter
   made c =
-      let n = bookRefusal (standingOf b) c in
-      by-test (eqb n 0) (λ t. changed b (cond t (effectOf (b .line) c) (lineOnly n (b .line))) ≡ cond t (bookWith b (taken (standingOf b) c)) b)
+      let n = bookRefusal (stateOf b) c in
+      by-test (eqb n 0) (λ t. changed b (cond t (effectOf (b .line) c) (lineOnly n (b .line))) ≡ cond t (bookWith b (taken (stateOf b) c)) b)
       (λ t. effect c (eqb→eq n 0 t)) (λ t. refl)
 
   pub step-made : (c : Call) {x : Change} → x ≡ changeOf b c → record { number = x .number; book = changed b x } ≡ stepOf b c
   step-made c e =
-      let n = bookRefusal (standingOf b) c in
+      let n = bookRefusal (stateOf b) c in
       let number = by-test (eqb n 0) (λ t. cond t (effectOf (b .line) c) (lineOnly n (b .line)) .number ≡ n) (λ t. taken-number (b .line) c ∙ sym (eqb→eq n 0 t)) (λ t. refl) in
       (λ i. record { number = e i .number; book = changed b (e i) }) ∙ (λ i. record { number = number i; book = made c i })
 
-pub left-as-it-was : (b : Book) (c : Call) → (bookRefusal (standingOf b) c ≡ 0 → ⊥) → b ≡ bookAfter b c
+pub left-as-it-was : (b : Book) (c : Call) → (bookRefusal (stateOf b) c ≡ 0 → ⊥) → b ≡ bookAfter b c
 unfolding bookAfter
-left-as-it-was b c f = sym (nonzero-cond (bookRefusal (standingOf b) c) (bookWith b (taken (standingOf b) c)) b f)
+left-as-it-was b c f = sym (nonzero-cond (bookRefusal (stateOf b) c) (bookWith b (taken (stateOf b) c)) b f)
 
 -- ---- a call of numbers that fit, as the machine reads it back
 
@@ -176,7 +176,7 @@ plain c = refl
 
 -- ---- what a call c, which is read back as d, changes of a line, by the number that v gives
 
-module _ (v : Standing) (l : Line) {c d : Call} (same : d ≡ c) {code : ℕ} (e : code ≡ bookRefusal v d) where
+module _ (v : LineState) (l : Line) {c d : Call} (same : d ≡ c) {code : ℕ} (e : code ≡ bookRefusal v d) where
   pub change-refused : {x : Change} → (code ≡ 0 → ⊥) → x ≡ lineOnly code l → x ≡ changeBy (bookRefusal v c) l c
   change-refused {x} f m =
       subst (λ (k : Call). x ≡ changeBy (bookRefusal v k) l k) same
@@ -197,7 +197,7 @@ module _ (v : Standing) (l : Line) {c d : Call} (same : d ≡ c) {code : ℕ} (e
 
 pub answers-as : (b : Book) (c : Call) {r : Outcome} → r ≡ outcome b c → Answers b c r
 unfolding outcome
-answers-as b c e = (e, ap (λ (o : Outcome). numberOf (o .answer)) e ∙ number-of-answer (bookRefusal (standingOf b) c))
+answers-as b c e = (e, ap (λ (o : Outcome). numberOf (o .answer)) e ∙ number-of-answer (bookRefusal (stateOf b) c))
 
 pub step-answers : (b : Book) {c d : Call} → d ≡ c → {s : Step} {r : Outcome} → s ≡ stepOf b d → r ≡ record { answer = answerOf (s .number); book = s .book } → Answers b c r
 unfolding outcome

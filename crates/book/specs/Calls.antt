@@ -19,7 +19,7 @@ use Rattle.adjust.specs.Call.{numberOf, answerOf}
 use Rattle.rules.specs.declared.Stage.the-variants.{Fresh}
 use Rattle.rules.specs.declared.Waiting.the-variants.{Nothing}
 use Rattle.rules.specs.declared.Book.{Book}
-use Rattle.rules.specs.Standing.{Standing, standingOf, bookWith, noRun}
+use Rattle.rules.specs.LineState.{LineState, stateOf, bookWith, noRun}
 use Rattle.rules.specs.Rules.{Call, figuresTests, bookRefusal, taken}
 use Rattle.book.specs.declared.Step.{Step}
 use Rattle.book.specs.declared.Outcome.{Outcome}
@@ -44,24 +44,24 @@ freshBook =
 
 -- what any call leaves of a book
 unfoldable pub bookAfter : Book → Call → Book
-bookAfter b c = cond (eqb (bookRefusal (standingOf b) c) 0) (bookWith b (taken (standingOf b) c)) b
+bookAfter b c = cond (eqb (bookRefusal (stateOf b) c) 0) (bookWith b (taken (stateOf b) c)) b
 
 -- what any call answers, by the refusal number, and the book that it leaves
 abbrev pub stepOf : Book → Call → Step
-stepOf b c = record { number = bookRefusal (standingOf b) c; book = bookAfter b c }
+stepOf b c = record { number = bookRefusal (stateOf b) c; book = bookAfter b c }
 
 -- a call but closing
 unfoldable pub outcome : Book → Call → Outcome
-outcome b c = record { answer = answerOf (bookRefusal (standingOf b) c); book = bookAfter b c }
+outcome b c = record { answer = answerOf (bookRefusal (stateOf b) c); book = bookAfter b c }
 
 -- r is that outcome, and its answer has, by `numberOf`, the refusal number
 abbrev pub Answers : Book → Call → Outcome → Type 0
-Answers b c r = (r ≡ outcome b c) × (numberOf (r .answer) ≡ bookRefusal (standingOf b) c)
+Answers b c r = (r ≡ outcome b c) × (numberOf (r .answer) ≡ bookRefusal (stateOf b) c)
 
 -- ---- closing
 
 -- the figures of a line on the end height that it has
-abbrev pub closingOf : Standing → Closing
+abbrev pub closingOf : LineState → Closing
 closingOf v = closing (v .line .opening) (v .line .end) (v .sections)
 
 -- the number of a closing's answer, 0 where it is not refused, and its values: W, L, n, T and the verdict
@@ -83,17 +83,17 @@ closeFigures n gave = record { answer = closeAnswerOf n (gave .summary); points 
 
 -- what a closing leads to where it is taken
 abbrev pub closedBy : Book → Call → Closing
-closedBy b c = closingOf (taken (standingOf b) c)
+closedBy b c = closingOf (taken (stateOf b) c)
 
 unfoldable pub closeOutcome : Book → Call → CloseOutcome
 closeOutcome b c =
-    let f : ClosedFigures = closeFigures (bookRefusal (standingOf b) c) (closedBy b c) in
+    let f : ClosedFigures = closeFigures (bookRefusal (stateOf b) c) (closedBy b c) in
     record { answer = f .answer; book = bookAfter b c; points = f .points }
 
 -- r is that outcome, and its answer has, by `closeNumber` and `closeValues`, the refusal number and values
 abbrev pub Closes : Book → Call → CloseOutcome → Type 0
 Closes b c r =
-    let n : ℕ = bookRefusal (standingOf b) c in
+    let n : ℕ = bookRefusal (stateOf b) c in
     (r ≡ closeOutcome b c) × ((closeNumber (r .answer) ≡ n) × (closeValues (r .answer) ≡ cond (eqb n 0) (closedBy b c .summary ∷ []) []))
 
 -- the closing whose points an array holds in its first n + 1 places
@@ -107,13 +107,13 @@ gaveOf a ps = map (λ (s : Summary). closingIn s ps) (closeValues a)
 -- ---- the figures of a closed book
 
 abbrev pub figuresRefusal : Book → ℕ
-figuresRefusal b = firstOf (figuresTests (standingOf b))
+figuresRefusal b = firstOf (figuresTests (stateOf b))
 
 unfoldable pub figuresOf : Book → ClosedFigures
-figuresOf b = closeFigures (figuresRefusal b) (closingOf (standingOf b))
+figuresOf b = closeFigures (figuresRefusal b) (closingOf (stateOf b))
 
 -- r is these, and its answer has the refusal number and values
 abbrev pub Tells : Book → ClosedFigures → Type 0
 Tells b r =
     let n : ℕ = figuresRefusal b in
-    (r ≡ figuresOf b) × ((closeNumber (r .answer) ≡ n) × (closeValues (r .answer) ≡ cond (eqb n 0) (closingOf (standingOf b) .summary ∷ []) []))
+    (r ≡ figuresOf b) × ((closeNumber (r .answer) ≡ n) × (closeValues (r .answer) ≡ cond (eqb n 0) (closingOf (stateOf b) .summary ∷ []) []))

@@ -1,7 +1,7 @@
 // What each call makes of a line and the lists of its sections, which are lent: its refusal, or its effect on the line and the section that it finishes.
 ghost use mathlib.Core.Path.{_≡_};
 ghost use Rattle.records.specs.declared.Tag.the-variants.{Sta, Ang};
-ghost use Rattle.rules.specs.Standing.{bookIn, standingIn};
+ghost use Rattle.rules.specs.LineState.{bookIn, stateIn};
 ghost use Rattle.rules.specs.code.Seen.{numbersIn, beside};
 ghost use Rattle.rules.specs.Rules.{open-line, station, end-run, drop-run, drop-section, close-line, open-spur, close-spur, collimation, bookRefusal};
 ghost use Rattle.rules.specs.Records.{callOf};
@@ -171,7 +171,7 @@ fn close_change<'a>(
     number: i64,
     end: i64,
 ) -> Change
-    ensures { λ r. ⌜ r ≡ changeBy (bookRefusal (standingIn line count (now (numbers .entry)) (now (heights .entry)) (now (distances .entry)) (now (discrepancies .entry))) (close-line number end)) line (close-line number end) ⌝ }
+    ensures { λ r. ⌜ r ≡ changeBy (bookRefusal (stateIn line count (now (numbers .entry)) (now (heights .entry)) (now (distances .entry)) (now (discrepancies .entry))) (close-line number end)) line (close-line number end) ⌝ }
 {
     let code = close_refusal(
         line,
@@ -195,7 +195,7 @@ fn close_spur_change<'a>(
     discrepancies: &'a [i64; 64],
     number: i64,
 ) -> Change
-    ensures { λ r. ⌜ r ≡ changeBy (bookRefusal (standingIn line count (now (numbers .entry)) (now (heights .entry)) (now (distances .entry)) (now (discrepancies .entry))) (close-spur number)) line (close-spur number) ⌝ }
+    ensures { λ r. ⌜ r ≡ changeBy (bookRefusal (stateIn line count (now (numbers .entry)) (now (heights .entry)) (now (distances .entry)) (now (discrepancies .entry))) (close-spur number)) line (close-spur number) ⌝ }
 {
     let code = close_spur_refusal(
         line,

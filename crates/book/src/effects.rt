@@ -3,7 +3,7 @@ ghost use mathlib.Core.Path.{_≡_};
 ghost use mathlib.Core.Bool.{true};
 ghost use Rattle.station.specs.code.Bounds.{Small};
 ghost use Rattle.rules.specs.declared.Waiting.the-variants.{Nothing};
-ghost use Rattle.rules.specs.Standing.{noRun, withStation, oneWay, bothWays};
+ghost use Rattle.rules.specs.LineState.{noRun, withStation, oneWay, bothWays};
 ghost use Rattle.rules.specs.Rules.{end-run, classOf, instrumentOf, openingOf, withOpening, withRuns, closedAt};
 ghost use Rattle.rules.specs.Rules as Rules;
 ghost use Rattle.rules.specs.code.Bounds.{SmallRun, SmallRuns};

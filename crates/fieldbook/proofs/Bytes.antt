@@ -16,7 +16,7 @@ use Rattle.columns.specs.Texts.{linesBy, lines, joined}
 use Rattle.columns.proofs.Lines.{length-with, length-title, fits-line}
 use Rattle.rules.specs.declared.Stage.{Stage}
 use Rattle.rules.specs.declared.Stage.the-variants.{Fresh, Open, Closed}
-use Rattle.rules.specs.Standing.{isClosed}
+use Rattle.rules.specs.LineState.{isClosed}
 use Rattle.ledger.specs.Plain.{Reading, freshReading, sectionOf, figuresOf}
 use Rattle.textbook.specs.Text.{Refusal, mostText, tooLong, lineRefusals, refusalsFrom, readingAfter}
 use Rattle.fieldbook.specs.Report.{refLine, closedNumbers, pointNumbers, pointLine, openLine, closingLines, resultLines, reportOf, withoutHeading, reportLines, report, printedOf}

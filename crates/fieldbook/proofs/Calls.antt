@@ -15,7 +15,7 @@ use Rattle.rules.specs.declared.Stage.{Stage}
 use Rattle.rules.specs.declared.Stage.the-variants.{Fresh, Open, Closed}
 use Rattle.rules.specs.declared.Book.{Book}
 use Rattle.rules.specs.Rules.{Call}
-use Rattle.rules.specs.Standing.{isClosed}
+use Rattle.rules.specs.LineState.{isClosed}
 use Rattle.ledger.specs.Plain.{Reading, freshReading, after, refusals, sectionOf, figuresOf}
 use Rattle.ledger.specs.Trace.{SoundTrace}
 use Rattle.ledger.proofs.Every.{every-list, same-figures, none-given}

@@ -21,14 +21,14 @@ use Rattle.columns.specs.Lines.{heading, title}
 use Rattle.columns.specs.Texts.{lines, joined}
 use Rattle.rules.specs.declared.Stage.{Stage}
 use Rattle.rules.specs.declared.Stage.the-variants.{Fresh, Open, Closed}
-use Rattle.rules.specs.Standing.{isClosed}
+use Rattle.rules.specs.LineState.{isClosed}
 use Rattle.book.specs.declared.CloseAnswer.{CloseAnswer}
 use Rattle.book.specs.declared.ClosedFigures.{ClosedFigures}
 use Rattle.book.specs.Calls.{closeNumber, closeFigures, closingIn, figuresOf}
 use Rattle.rules.specs.Rules.{Call}
 use Rattle.adjust.specs.Sections.{holding}
 use Rattle.ledger.specs.Plain as Plain
-use Rattle.ledger.specs.Plain.{Reading, freshReading, after, standing, sectionOf}
+use Rattle.ledger.specs.Plain.{Reading, freshReading, after, plainState, sectionOf}
 use Rattle.ledger.proofs.Whole.{Kept, fresh-kept, calls-kept}
 use Rattle.ledger.proofs.Again.{bookOf, fresh-holds, figures-held, figures-again}
 use Rattle.ledger.proofs.Traced.{points-back}
@@ -52,11 +52,11 @@ closed-stage Fresh e = let z : _≡_ {A = ℕ} 0 1 = cc in absurd (omega arith)
 closed-stage Open e = let z : _≡_ {A = ℕ} 0 1 = cc in absurd (omega arith)
 closed-stage Closed e = refl
 
-module _ (r : Reading) (k : Kept (standing r)) where
+module _ (r : Reading) (k : Kept (plainState r)) where
   -- the points, read back from their array
   given-back : closingIn (Plain.figuresOf r .summary) (filled noPoint 65 (Plain.figuresOf r .points)) ≡ Plain.figuresOf r
   given-back =
-      λ i. record { summary = Plain.figuresOf r .summary; points = points-back (lineFrame (r .opening) (r .end) (standing r .sections)) (r .opening .start .number) (standing r .sections) (k .few) i }
+      λ i. record { summary = Plain.figuresOf r .summary; points = points-back (lineFrame (r .opening) (r .end) (plainState r .sections)) (r .opening .start .number) (plainState r .sections) (k .few) i }
 
   sections-many : bookOf r .sections .count ≡ length (r .sections)
   unfolding holding
@@ -104,7 +104,7 @@ calls-printable calls =
     r : Reading
     r = after freshReading calls
 
-    k : Kept (standing r)
+    k : Kept (plainState r)
     k = calls-kept calls
 
     sections-kept : length (r .sections) ≤ 64
@@ -119,8 +119,8 @@ module _ (ls : List (List ℕ)) where
   abbrev last : Reading
   last = readingAfter freshReading ls
 
-  last-kept : Kept (standing last)
-  last-kept = subst (λ (r : Reading). Kept (standing r)) (sym (reading-calls freshReading (entries ls))) (calls-kept (callsOf ls))
+  last-kept : Kept (plainState last)
+  last-kept = subst (λ (r : Reading). Kept (plainState r)) (sym (reading-calls freshReading (entries ls))) (calls-kept (callsOf ls))
 
   read-lines : length ls ≤ 776 → stateLines (read last (lineRefusals freshReading ls)) ≡ reportOf (refusalsFrom 2 (lineRefusals freshReading ls)) last
   unfolding stateLines refusalsFrom

@@ -14,9 +14,9 @@ use Rattle.adjust.specs.declared.terms.Class.the-variants.{Third, Fourth, Spur}
 use Rattle.station.specs.Station.{stationOf}
 use Rattle.rules.specs.declared.Stage.{Stage}
 use Rattle.rules.specs.declared.Stage.the-variants.{Fresh, Open, Closed}
-use Rattle.rules.specs.Standing.{isOpen}
+use Rattle.rules.specs.LineState.{isOpen}
 use Rattle.rules.specs.Rules.{Call, open-line, station, end-run, drop-run, drop-section, close-line, open-spur, close-spur, collimation}
-use Rattle.ledger.specs.Plain.{Reading, Awaited, refusal, taken, runEnded, standing}
+use Rattle.ledger.specs.Plain.{Reading, Awaited, refusal, taken, runEnded, plainState}
 use Rattle.ledger.specs.Entries.{Entry, asks, refused, entryRefusal, entryNext}
 use Rattle.rules.proofs.Tables.{fails}
 use Rattle.ledger.proofs.Follows.{recast}
@@ -58,16 +58,16 @@ taken-least : (r : Reading) (c : Call) → refusal r c ≡ 0 → least (taken r 
 taken-least r (open-line order instrument number height) e = omega arith
 taken-least r (station kb kf readings) e = omega (arith, length-append (r .present) (stationOf kb kf readings ∷ []))
 taken-least r (end-run number) e =
-    ended r (r .opening .class) (r .waiting) number (two-at-least (length (r .present)) (fails (standing r) (end-run number) e 29))
+    ended r (r .opening .class) (r .waiting) number (two-at-least (length (r .present)) (fails (plainState r) (end-run number) e 29))
 taken-least r drop-run e = omega arith
 taken-least r drop-section e = omega arith
 taken-least r (close-line number end) e =
-    let opened = not-false (isOpen (r .stage)) (fails (standing r) (close-line number end) e 21) in
+    let opened = not-false (isOpen (r .stage)) (fails (plainState r) (close-line number end) e 21) in
     omega (arith, open-lines (r .stage) opened)
 taken-least r (open-spur order instrument number height) e = omega arith
 taken-least r (collimation x) e = omega arith
 taken-least r (close-spur number) e =
-    let opened = not-false (isOpen (r .stage)) (fails (standing r) (close-spur number) e 21) in
+    let opened = not-false (isOpen (r .stage)) (fails (plainState r) (close-spur number) e 21) in
     omega (arith, open-lines (r .stage) opened)
 
 -- ---- a line is refused, or adds one at most

@@ -22,12 +22,12 @@ use Rattle.columns.specs.Lines.{lineEnd, heading, title}
 use Rattle.columns.specs.Records.{letters, tags, tagAmong, fieldCount, allNumbers, numbersIn, refusedLine, recordLine, numbersLine, recordIn, lineOfKind, lineIn}
 use Rattle.columns.specs.Texts.{lines}
 use Rattle.columns.proofs.Lines.{length-line, length-title}
-use Rattle.rules.specs.Standing.{isClosed}
+use Rattle.rules.specs.LineState.{isClosed}
 use Rattle.rules.specs.Rules.{Call}
 use Rattle.rules.proofs.Tables.{tests, tables}
 use Rattle.rules.specs.Records.{callOf}
 use Rattle.ledger.specs.Entries.{entryOf, entryRefusal, entryNext}
-use Rattle.ledger.specs.Plain.{Reading, freshReading, after, refusal, standing, sectionOf, figuresOf}
+use Rattle.ledger.specs.Plain.{Reading, freshReading, after, refusal, plainState, sectionOf, figuresOf}
 use Rattle.textbook.specs.Text.{Refusal, lineEntry, entries, lineRefusals, readingAfter, callsOf, refusalsFrom}
 use Rattle.fieldbook.specs.Report.{refLine, closedNumbers, closedLine, pointLine, openLine, closingLines, resultLines, reportOf, withoutHeading, reportLines}
 use Rattle.fieldbook.specs.Fits.{pointFits, ReportWhole}
@@ -69,7 +69,7 @@ refusal-small : (r : Reading) (l : List ℕ) → entryRefusal r (lineEntry l) �
 refusal-small r l = go (lineIn l .kind) (line-small l)
   where
     go : (k : Kind) → SmallKind k → entryRefusal r (entryOf k (lineIn l .values)) ≤ 99
-    go (Record t) h = let c : Call = callOf t (lineIn l .values) in leb-true (refusal r c) 99 (first-each (λ n. leb n 99) (tests (standing r) c) (tables (standing r) c .two-digits) refl)
+    go (Record t) h = let c : Call = callOf t (lineIn l .values) in leb-true (refusal r c) 99 (first-each (λ n. leb n 99) (tests (plainState r) c) (tables (plainState r) c .two-digits) refl)
     go (Refused n) h = h
 
 -- ---- whole lines

@@ -28,12 +28,12 @@ use Rattle.columns.specs.Lines.{widthOf, allFit, columnsOf, lineFits, isWide}
 use Rattle.columns.proofs.Fields.{fits-within}
 use Rattle.columns.proofs.Lines.{columns-range, fits-room, height-fits}
 use Rattle.rules.specs.declared.Stage.the-variants.{Closed}
-use Rattle.rules.specs.Standing.{Standing}
+use Rattle.rules.specs.LineState.{LineState}
 use Rattle.adjust.specs.Terms.{termsOf}
 use Rattle.rules.specs.Rules.{Call, close-line, close-spur, closureWithin}
 use Rattle.ledger.specs.Plain as Plain
 use Rattle.ledger.specs.Claims.{ClosedBy, by-end, by-fin}
-use Rattle.ledger.specs.Plain.{Reading, freshReading, after, figuresOf, standing}
+use Rattle.ledger.specs.Plain.{Reading, freshReading, after, figuresOf, plainState}
 use Rattle.rules.proofs.Tables.{fails}
 use Rattle.ledger.proofs.Runs.{narrow}
 use Rattle.ledger.proofs.Whole.{Kept, calls-kept}
@@ -118,7 +118,7 @@ module _ (start closed total : ℤ) (begins : natAbs start ≤ 8999999) (closes 
 
 -- ---- a line that is closed, whose W is small
 
-module _ (v : Standing) (i : Kept v) (shut : v .line .stage ≡ Closed) (small : natAbs (lineFrame (v .line .opening) (v .line .end) (v .sections) .closure) ≤ mostClosure) where
+module _ (v : LineState) (i : Kept v) (shut : v .line .stage ≡ Closed) (small : natAbs (lineFrame (v .line .opening) (v .line .end) (v .sections) .closure) ≤ mostClosure) where
   abbrev start : ℤ
   start = v .line .opening .start .height
 
@@ -157,10 +157,10 @@ module _ (v : Standing) (i : Kept v) (shut : v .line .stage ≡ Closed) (small :
       (omega (ints, parts-add (pos 0) (lineLength ss))) (line-near ss some (v .line .opening) (v .line .end)))
 
 -- W is small where END was taken, by the test 36, and 0 where FIN was
-closed-small : (r : Reading) (c : Call) → ClosedBy r c → Plain.refusal r c ≡ 0 → Kept (standing (Plain.taken r c))
-    → let v : Standing = standing (Plain.taken r c) in natAbs (lineFrame (v .line .opening) (v .line .end) (v .sections) .closure) ≤ mostClosure
+closed-small : (r : Reading) (c : Call) → ClosedBy r c → Plain.refusal r c ≡ 0 → Kept (plainState (Plain.taken r c))
+    → let v : LineState = plainState (Plain.taken r c) in natAbs (lineFrame (v .line .opening) (v .line .end) (v .sections) .closure) ≤ mostClosure
 closed-small r (close-line n end) (by-end m h tied) e k =
-    let v : Standing = standing r in
+    let v : LineState = plainState r in
     let class : Class = r .opening .class in
     let l : ℤ = lineLength (v .sections) in
     let w : ℤ = closure (r .opening .start .height) end (v .sections) in
@@ -168,16 +168,16 @@ closed-small r (close-line n end) (by-end m h tied) e k =
     let small : natAbs w ≤ mostClosure = closure-small class w l (not-false (closureWithin (termsOf class) w l) (fails v (close-line n end) e 36)) short in
     subst (λ (t : Bool). natAbs (cond t w (pos 0)) ≤ mostClosure) (sym tied) small
 closed-small r (close-spur n) (by-fin m loose) e k =
-    let v : Standing = standing r in
+    let v : LineState = plainState r in
     subst (λ (t : Bool). natAbs (cond t (closure (r .opening .start .height) (pos 0) (v .sections)) (pos 0)) ≤ mostClosure) (sym loose) (omega arith)
 
 pub figures-fit : FiguresFit
 figures-fit calls e =
     let c = every-list calls e in
     let r : Reading = after freshReading (c .before) in
-    let kept : Kept (standing (Plain.taken r (c .call))) = subst (λ (s : Reading). Kept (standing s)) (c .stays) (calls-kept calls) in
+    let kept : Kept (plainState (Plain.taken r (c .call))) = subst (λ (s : Reading). Kept (plainState s)) (c .stays) (calls-kept calls) in
     let shut : Plain.taken r (c .call) .stage ≡ Closed = ap (λ (s : Reading). s .stage) (sym (c .stays)) ∙ e in
-    let v : Standing = standing (Plain.taken r (c .call)) in
+    let v : LineState = plainState (Plain.taken r (c .call)) in
     let small = closed-small r (c .call) (c .closes) (c .accepted) kept in
     subst (λ (s : Reading). (closedFits (figuresOf s .summary) ≡ true) × All pointFits (figuresOf s .points)) (sym (c .stays))
     (summary-fits v kept shut small, all-fit v kept shut small)

@@ -24,7 +24,7 @@ use Rattle.columns.proofs.Put.{placed-room}
 use Rattle.columns.proofs.Lines.{length-line, length-title}
 use Rattle.columns.proofs.Texts.{joined-append}
 use Rattle.rules.specs.declared.Book.{Book}
-use Rattle.rules.specs.Standing.{isClosed}
+use Rattle.rules.specs.LineState.{isClosed}
 use Rattle.book.specs.declared.CloseAnswer.{CloseAnswer}
 use Rattle.book.specs.declared.CloseAnswer.the-variants.{Closed, NotClosed}
 use Rattle.book.specs.Calls.{closingIn, figuresOf}

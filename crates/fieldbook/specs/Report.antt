@@ -15,7 +15,7 @@ use Rattle.adjust.specs.Line.{Closing}
 use Rattle.columns.specs.Decimals.{same}
 use Rattle.columns.specs.Lines.{tagLine, isWide, heading, title}
 use Rattle.columns.specs.Texts.{lines, joined}
-use Rattle.rules.specs.Standing.{isClosed}
+use Rattle.rules.specs.LineState.{isClosed}
 use Rattle.ledger.specs.Plain.{Reading, freshReading, figuresOf}
 use Rattle.fieldbook.specs.declared.Reduced.{Reduced}
 use Rattle.fieldbook.specs.declared.Reduced.the-variants.{Written, Refused}

@@ -7,7 +7,7 @@ use Prim.Native.Nat.{ℕ}
 use lib.Dec.{eqb}
 use Rattle.rules.specs.declared.Stage.{Stage}
 use Rattle.rules.specs.declared.Stage.the-variants.{Open}
-use Rattle.rules.specs.Standing.{isOpen}
+use Rattle.rules.specs.LineState.{isOpen}
 use Rattle.rules.specs.Rules.{Call, drop-run, drop-section}
 use Rattle.ledger.specs.Plain.{Reading, Levelled, Awaited, after, next, taken, refusal, withLists}
 use Rattle.ledger.specs.Claims.{RunDropped, SectionDropped}

@@ -5,7 +5,7 @@ use Prim.Native.Nat.{ℕ, suc}
 use lib.ListN.{length}
 use Rattle.rules.specs.declared.Book.{Book}
 use Rattle.book.specs.declared.Step.{Step}
-use Rattle.ledger.specs.Plain.{Reading, next, after, refusal, refusals, standing}
+use Rattle.ledger.specs.Plain.{Reading, next, after, refusal, refusals, plainState}
 use Rattle.ledger.specs.Entries.{Entry, asks, refused, entryRefusal, entryNext, entryStep, entryRefusals, afterEntries, callsOf, callNumbers}
 use Rattle.ledger.proofs.Whole.{Kept, next-kept}
 use Rattle.ledger.proofs.Again.{bookOf}
@@ -39,8 +39,8 @@ refusals-long r (e ∷ es) = ap suc (refusals-long (entryNext r e) es)
 
 -- ---- a book takes an entry as the plain reading does
 
-module _ (r : Reading) (k : Kept (standing r)) where
-  pub entry-kept : (e : Entry) → Kept (standing (entryNext r e))
+module _ (r : Reading) (k : Kept (plainState r)) where
+  pub entry-kept : (e : Entry) → Kept (plainState (entryNext r e))
   entry-kept (asks c) = next-kept r c k
   entry-kept (refused n) = k
 
@@ -48,6 +48,6 @@ module _ (r : Reading) (k : Kept (standing r)) where
   entry-step (asks c) = λ i. record { number = number r k c i; book = left r k c i }
   entry-step (refused n) = refl
 
-pub entries-kept : (r : Reading) → Kept (standing r) → (es : List Entry) → Kept (standing (afterEntries r es))
+pub entries-kept : (r : Reading) → Kept (plainState r) → (es : List Entry) → Kept (plainState (afterEntries r es))
 entries-kept r k [] = k
 entries-kept r k (e ∷ es) = entries-kept (entryNext r e) (entry-kept r k e) es

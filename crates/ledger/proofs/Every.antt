@@ -20,9 +20,9 @@ use Rattle.adjust.specs.Line.{Frame, frame, closure, points, Closing, closing, 
 use Rattle.adjust.proofs.Lines.{line-sound, line-near, raw-heights}
 use Rattle.rules.specs.declared.Stage.{Stage}
 use Rattle.rules.specs.declared.Stage.the-variants.{Closed}
-use Rattle.rules.specs.Standing.{Standing}
+use Rattle.rules.specs.LineState.{LineState}
 use Rattle.rules.specs.Rules.{Call, open-line, station, end-run, drop-run, drop-section, close-line, open-spur, close-spur, collimation, isClosing, inputTests}
-use Rattle.ledger.specs.Plain.{Reading, Awaited, freshReading, after, next, taken, refusal, standing, runEnded, refusals, figuresOf, given, closings}
+use Rattle.ledger.specs.Plain.{Reading, Awaited, freshReading, after, next, taken, refusal, plainState, runEnded, refusals, figuresOf, given, closings}
 use Rattle.ledger.specs.Claims.{others, Ends, SoundClosing, SpurHeights, ClosedBy, by-end, by-fin, EveryList, takenOnly, StruckOut}
 use Rattle.rules.proofs.Tables.{fails}
 use Rattle.ledger.proofs.Follows.{recast}
@@ -176,7 +176,7 @@ none-given (c ∷ cs) r n = λ i. gives-none c cs r n i ++ none-given cs (next r
 
 -- ---- and soundly
 
-module _ (v : Standing) where
+module _ (v : LineState) where
   abbrev o : Opening
   o = v .line .opening
 
@@ -216,10 +216,10 @@ closed-by r (station kb kf m) k e = no-true k
 closed-by r (end-run m) k e = no-true k
 closed-by r drop-run k e = no-true k
 closed-by r drop-section k e = no-true k
-closed-by r (close-line m h) k e = by-end m h (not-false (termsOf (r .opening .class) .tied) (fails (standing r) (close-line m h) e 41))
+closed-by r (close-line m h) k e = by-end m h (not-false (termsOf (r .opening .class) .tied) (fails (plainState r) (close-line m h) e 41))
 closed-by r (open-spur o i m h) k e = no-true k
 closed-by r (collimation x) k e = no-true k
-closed-by r (close-spur m) k e = by-fin m (fails (standing r) (close-spur m) e 41)
+closed-by r (close-spur m) k e = by-fin m (fails (plainState r) (close-spur m) e 41)
 
 pub every-list : EveryList
 every-list calls e =
@@ -234,7 +234,7 @@ every-list calls e =
       accepted = f .accepted;
       gave = figuresOf r;
       once = f .once;
-      sound = sound (standing r) (subst (λ (s : Reading). pos 1 ≤ℤ lineLength (standing s .sections)) (f .stays) (closed-long calls e));
+      sound = sound (plainState r) (subst (λ (s : Reading). pos 1 ≤ℤ lineLength (plainState s .sections)) (f .stays) (closed-long calls e));
       stays = f .stays;
     }
 

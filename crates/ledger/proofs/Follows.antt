@@ -10,11 +10,11 @@ use Rattle.adjust.specs.declared.terms.Class.the-variants.{Third, Fourth, Spur}
 use Rattle.station.specs.Station.{Station, stationOf, figuresOf, sights, sightDifference, twiceHeight}
 use Rattle.adjust.specs.declared.Section.{Section}
 use Rattle.rules.specs.declared.Waiting.the-variants.{Nothing}
-use Rattle.rules.specs.Standing.{Standing, noRun, withStation}
+use Rattle.rules.specs.LineState.{LineState, noRun, withStation}
 use Rattle.rules.specs.Rules as Rules
 use Rattle.rules.specs.Rules.{Call, open-line, station, end-run, drop-run, drop-section, close-line, open-spur, close-spur, collimation, withRuns, withSection}
 use Rattle.ledger.specs.Plain as Plain
-use Rattle.ledger.specs.Plain.{Reading, Levelled, Awaited, runOf, sectionOf, standing, withLists}
+use Rattle.ledger.specs.Plain.{Reading, Levelled, Awaited, runOf, sectionOf, plainState, withLists}
 
 -- a reading with the class and the waiting list given: the end of a run goes by these two, so a proof goes by their cases and is then used
 -- at `recast r (r .opening .class) (r .waiting)`, which is r
@@ -55,21 +55,21 @@ pub section-append : (xs : List Levelled) (x : Levelled) → map sectionOf (xs +
 section-append [] x = refl
 section-append (y ∷ ys) x = ap (λ (l : List Section). sectionOf y ∷ l) (section-append ys x)
 
-finished : (r : Reading) (x : Levelled) → standing (withLists r (r .sections ++ (x ∷ [])) none []) ≡ withSection (standing r) (sectionOf x)
-finished r x = λ i. record { line = withRuns (standing r .line) Nothing noRun; sections = section-append (r .sections) x i }
+finished : (r : Reading) (x : Levelled) → plainState (withLists r (r .sections ++ (x ∷ [])) none []) ≡ withSection (plainState r) (sectionOf x)
+finished r x = λ i. record { line = withRuns (plainState r .line) Nothing noRun; sections = section-append (r .sections) x i }
 
 ended : (r : Reading) (class : Class) (waiting : Option Awaited) (n : ℤ)
-    → standing (Plain.runEnded (recast r class waiting) n) ≡ Rules.runEnded (standing (recast r class waiting)) n
+    → plainState (Plain.runEnded (recast r class waiting) n) ≡ Rules.runEnded (plainState (recast r class waiting)) n
 ended r Third none n = refl
 ended r Spur none n = refl
 ended r Fourth none n = finished (recast r Fourth none) (record { number = n; outward = r .present; back = none })
 ended r class (some w) n = finished (recast r class (some w)) (record { number = w .number; outward = w .outward; back = some (r .present) })
 
 -- for every reading and every call, whether a list of calls leads there or not
-pub follows : (r : Reading) (c : Call) → standing (Plain.taken r c) ≡ Rules.taken (standing r) c
+pub follows : (r : Reading) (c : Call) → plainState (Plain.taken r c) ≡ Rules.taken (plainState r) c
 follows r (open-line order instrument number height) = refl
 follows r (station kb kf readings) =
-    let v : Standing = standing r in
+    let v : LineState = plainState r in
     λ i. record { line = withRuns (v .line) (v .line .waiting) (run-append (r .present) (stationOf kb kf readings) i); sections = v .sections }
 follows r (end-run number) = ended r (r .opening .class) (r .waiting) number
 follows r drop-run = refl

@@ -2,12 +2,12 @@
 use mathlib.Core.List.{_++_}
 use Rattle.numbers.specs.Tables.{Lowest}
 use Rattle.numbers.proofs.Tables.{first-lowest}
-use Rattle.rules.specs.Standing.{Standing}
+use Rattle.rules.specs.LineState.{LineState}
 use Rattle.rules.specs.Rules.{Call, inputTests, stateTests, refusal, bookTests, bookRefusal, rank}
 use Rattle.rules.proofs.Tables.{tests, tables}
 use Rattle.ledger.specs.Claims.{LowestGiven}
 
-pub lowest : (v : Standing) (c : Call) → Lowest rank (inputTests c ++ stateTests v c) (refusal v c)
+pub lowest : (v : LineState) (c : Call) → Lowest rank (inputTests c ++ stateTests v c) (refusal v c)
 lowest v c = first-lowest rank (tests v c) 0 (tables v c .rising)
 
 pub book-lowest : LowestGiven

@@ -33,7 +33,7 @@ use Rattle.adjust.specs.Sections.{sectionFits}
 use Rattle.adjust.specs.Terms.{orderOf}
 use Rattle.adjust.proofs.Classes.{Row}
 use Rattle.rules.specs.declared.Run.{Run}
-use Rattle.rules.specs.Standing.{Standing, noRun, withStation, oneWay, bothWays, runFits, mostG, mostS, mostDifference}
+use Rattle.rules.specs.LineState.{LineState, noRun, withStation, oneWay, bothWays, runFits, mostG, mostS, mostDifference}
 use Rattle.rules.specs.Rules.{station, stateTests, countedLength, discrepancyWithin, refusal}
 use Rattle.rules.proofs.Tables.{fails}
 
@@ -113,7 +113,7 @@ figures-sized u f kf h few height back fore difference =
     both = f .back .sight +ℤ f .fore .sight
 
 -- by the tests 6 to 8, 22, 24, 26 and 27
-pub station-sized : (v : Standing) (kb kf : ℤ) (readings : List (List ℤ)) → refusal v (station kb kf readings) ≡ 0
+pub station-sized : (v : LineState) (kb kf : ℤ) (readings : List (List ℤ)) → refusal v (station kb kf readings) ≡ 0
     → Sized (v .line .present) → Sized (withStation (v .line .present) (figuresOf (stationOf kb kf readings)) kf)
 unfolding readingRefusal
 station-sized v kb kf readings e h =

@@ -29,7 +29,7 @@ use Rattle.book.specs.declared.Outcome.{Outcome}
 use Rattle.book.specs.declared.CloseAnswer.the-variants.{Closed, NotClosed}
 use Rattle.book.specs.declared.ClosedFigures.{ClosedFigures}
 use Rattle.book.specs.declared.CloseOutcome.{CloseOutcome}
-use Rattle.rules.specs.Standing.{Standing, standingOf, bookWith}
+use Rattle.rules.specs.LineState.{LineState, stateOf, bookWith}
 use Rattle.rules.specs.Rules.{Call, open-line, station, end-run, drop-run, drop-section, close-line, open-spur, close-spur, collimation, isClosing, bookRefusal}
 use Rattle.rules.specs.Records.{callOf}
 use Rattle.rules.specs.Rules as Rules
@@ -38,32 +38,32 @@ use Rattle.book.specs.Calls.{freshBook, bookAfter, stepOf, outcome, Answers, cl
 use Rattle.book.proofs.Joined.{answers-as}
 use Rattle.book.proofs.Closable.{closes}
 use Rattle.ledger.specs.Plain as Plain
-use Rattle.ledger.specs.Plain.{Reading, freshReading, next, taken, refusal, after, refusals, given, closings, standing}
+use Rattle.ledger.specs.Plain.{Reading, freshReading, next, taken, refusal, after, refusals, given, closings, plainState}
 use Rattle.ledger.specs.Claims.{ClosedOnce, takenOnly}
 use Rattle.ledger.specs.Trace.{Ensures, CloseEnsures, FiguresEnsures, hadOf, Trace, done, call, close, took, took-closing, EveryTrace, EveryListMade, StruckOutOfBook}
 use Rattle.ledger.proofs.Follows.{follows}
 use Rattle.ledger.proofs.Whole.{Kept, next-kept, fresh-kept, calls-kept, same-refusal, no-shorter}
 use Rattle.ledger.proofs.Every.{every-list, same-figures, closes-line, either, none-given, struck-out, all-taken}
-use Rattle.ledger.proofs.Again.{bookOf, holds-standing, fresh-holds, figures-again}
+use Rattle.ledger.proofs.Again.{bookOf, holds-state, fresh-holds, figures-again}
 
 -- ---- one call
 
-module _ (r : Reading) (k : Kept (standing r)) (c : Call) where
-  pub number : bookRefusal (standingOf (bookOf r)) c ≡ refusal r c
-  number = ap (λ (v : Standing). bookRefusal v c) (holds-standing r) ∙ same-refusal (standing r) c k
+module _ (r : Reading) (k : Kept (plainState r)) (c : Call) where
+  pub number : bookRefusal (stateOf (bookOf r)) c ≡ refusal r c
+  number = ap (λ (v : LineState). bookRefusal v c) (holds-state r) ∙ same-refusal (plainState r) c k
 
   pub left : bookAfter (bookOf r) c ≡ bookOf (next r c)
   unfolding bookAfter
   left =
-      (λ i. cond (eqb (number i) 0) (bookWith (bookOf r) (Rules.taken (holds-standing r i) c)) (bookOf r))
-      ∙ by-test (eqb (refusal r c) 0) (λ t. cond t (bookWith (bookOf r) (Rules.taken (standing r) c)) (bookOf r) ≡ bookOf (cond t (taken r c) r))
+      (λ i. cond (eqb (number i) 0) (bookWith (bookOf r) (Rules.taken (holds-state r i) c)) (bookOf r))
+      ∙ by-test (eqb (refusal r c) 0) (λ t. cond t (bookWith (bookOf r) (Rules.taken (plainState r) c)) (bookOf r) ≡ bookOf (cond t (taken r c) r))
       (λ t. again (eqb→eq (refusal r c) 0 t)) (λ t. refl)
     where
-      again : refusal r c ≡ 0 → bookWith (bookOf r) (Rules.taken (standing r) c) ≡ bookOf (taken r c)
+      again : refusal r c ≡ 0 → bookWith (bookOf r) (Rules.taken (plainState r) c) ≡ bookOf (taken r c)
       again e =
           (λ i. record {
-            line = Rules.taken (standing r) c .line;
-            sections = holding-again (freshBook .sections) (standing r .sections) (Rules.taken (standing r) c .sections) (no-shorter (standing r) c k e) i;
+            line = Rules.taken (plainState r) c .line;
+            sections = holding-again (freshBook .sections) (plainState r .sections) (Rules.taken (plainState r) c .sections) (no-shorter (plainState r) c k e) i;
           })
           ∙ ap (bookWith freshBook) (sym (follows r c))
 
@@ -109,15 +109,15 @@ one-beside : (r : Reading) (c : Call) → isClosing c ≡ true → given r c ≡
 one-beside r c e = ap (λ (k : Bool). cond k (Plain.figuresOf (taken r c) ∷ []) []) e
 
 -- a record that is taken of the book of a reading: its number, and the book of the next reading
-module _ (r : Reading) (k : Kept (standing r)) (c : Call) {b : Book} (p : b ≡ bookOf r) {x : Step} (h : x ≡ stepOf b c) where
+module _ (r : Reading) (k : Kept (plainState r)) (c : Call) {b : Book} (p : b ≡ bookOf r) {x : Step} (h : x ≡ stepOf b c) where
   took-number : x .number ≡ refusal r c
-  took-number = ap (λ (y : Step). y .number) h ∙ ap (λ (y : Book). bookRefusal (standingOf y) c) p ∙ number r k c
+  took-number = ap (λ (y : Step). y .number) h ∙ ap (λ (y : Book). bookRefusal (stateOf y) c) p ∙ number r k c
 
   took-book : x .book ≡ bookOf (next r c)
   took-book = ap (λ (y : Step). y .book) h ∙ ap (λ (y : Book). bookAfter y c) p ∙ left r k c
 
 -- what a closing gives of the book of a reading, at once or by the figures of the book that it leaves
-module _ (r : Reading) (k : Kept (standing r)) (c : Call) (shuts : isClosing c ≡ true) where
+module _ (r : Reading) (k : Kept (plainState r)) (c : Call) (shuts : isClosing c ≡ true) where
   abbrev closed : Reading
   closed = taken r c
 
@@ -125,18 +125,18 @@ module _ (r : Reading) (k : Kept (standing r)) (c : Call) (shuts : isClosing c �
   reached : refusal r c ≡ 0 → next r c ≡ closed
   reached e = zero-cond (refusal r c) closed r e
 
-  closed-kept : refusal r c ≡ 0 → Kept (standing closed)
-  closed-kept e = subst (λ (q : Reading). Kept (standing q)) (reached e) (next-kept r c k)
+  closed-kept : refusal r c ≡ 0 → Kept (plainState closed)
+  closed-kept e = subst (λ (q : Reading). Kept (plainState q)) (reached e) (next-kept r c k)
 
   one-given : refusal r c ≡ 0 → gaveOf (Closed (Plain.figuresOf closed .summary)) (filled noPoint 65 (Plain.figuresOf closed .points)) ≡ given r c
-  one-given e = given-back (closed .opening) (closed .end) (standing closed .sections) (closed-kept e .few) ∙ sym (one-beside r c shuts)
+  one-given e = given-back (closed .opening) (closed .end) (plainState closed .sections) (closed-kept e .few) ∙ sym (one-beside r c shuts)
 
   closing-gave : gaveOf (closeOutcome (bookOf r) c .answer) (closeOutcome (bookOf r) c .points) ≡ cond (eqb (refusal r c) 0) (given r c) []
   unfolding closeOutcome
   closing-gave =
       let n = refusal r c in
       let g : Closing = Plain.figuresOf closed in
-      let figures : closedBy (bookOf r) c ≡ g = ap (λ (v : Standing). closingOf (Rules.taken v c)) (holds-standing r) ∙ ap closingOf (sym (follows r c)) in
+      let figures : closedBy (bookOf r) c ≡ g = ap (λ (v : LineState). closingOf (Rules.taken v c)) (holds-state r) ∙ ap closingOf (sym (follows r c)) in
       (λ i. gaveOf (closeFigures (number r k c i) (figures i) .answer) (closeFigures (number r k c i) (figures i) .points))
       ∙ by-test (eqb n 0) (λ t. gaveOf (cond t (Closed (g .summary)) (NotClosed n)) (filled noPoint 65 (cond t (g .points) [])) ≡ cond t (given r c) [])
       (λ t. one-given (eqb→eq n 0 t)) (λ t. refl)
@@ -157,7 +157,7 @@ record Same (r : Reading) (calls : List Call) (ns : List ℕ) (gs : List Closing
   gave : gs ≡ closings r calls
   book : e ≡ bookOf (after r calls)
 
-traced : {b e : Book} {cs : List Call} {ns : List ℕ} {gs : List Closing} (r : Reading) → Kept (standing r) → b ≡ bookOf r → Trace b cs ns gs e → Same r cs ns gs e
+traced : {b e : Book} {cs : List Call} {ns : List ℕ} {gs : List Closing} (r : Reading) → Kept (plainState r) → b ≡ bookOf r → Trace b cs ns gs e → Same r cs ns gs e
 unfolding outcome closeOutcome
 traced r k p done = record { numbers = refl; gave = refl; book = p }
 traced r k p (call {b = b} {c = c} {cs = cs} o h t) =
@@ -165,7 +165,7 @@ traced r k p (call {b = b} {c = c} {cs = cs} o h t) =
     let n = m .0 in
     let q = m .1 in
     let rest = traced (next r c) (next-kept r c k) (ap (λ (x : Outcome). x .book) (q .0) ∙ ap (λ (x : Book). bookAfter x c) p ∙ left r k c) t in
-    let answered = q .1 ∙ ap (λ (x : Book). bookRefusal (standingOf x) c) p ∙ number r k c in
+    let answered = q .1 ∙ ap (λ (x : Book). bookRefusal (stateOf x) c) p ∙ number r k c in
     record {
       numbers = λ i. answered i ∷ rest .numbers i;
       gave = rest .gave ∙ ap (λ (l : List Closing). l ++ closings (next r c) cs) (sym (either (eqb (refusal r c) 0) (none-beside r c n)));
@@ -175,7 +175,7 @@ traced r k p (close {b = b} {c = c} {cs = cs} o h t) =
     let m = meant b c .closes o h in
     let q : o ≡ closeOutcome (bookOf r) c = m .1 .0 ∙ ap (λ (x : Book). closeOutcome x c) p in
     let rest = traced (next r c) (next-kept r c k) (ap (λ (x : CloseOutcome). x .book) q ∙ left r k c) t in
-    let answered = m .1 .1 .0 ∙ ap (λ (x : Book). bookRefusal (standingOf x) c) p ∙ number r k c in
+    let answered = m .1 .1 .0 ∙ ap (λ (x : Book). bookRefusal (stateOf x) c) p ∙ number r k c in
     let gave = ap (λ (x : CloseOutcome). gaveOf (x .answer) (x .points)) q ∙ closing-gave r k c (m .0) in
     record { numbers = λ i. answered i ∷ rest .numbers i; gave = λ i. gave i ++ rest .gave i; book = rest .book }
 traced r k p (took {cs = cs} tag v x n h t) =
@@ -201,7 +201,7 @@ traced r k p (took-closing tag v x a shuts h f t) =
 
 never-20 : (r : Reading) (cs : List Call) → anyOf (λ n. eqb n 20) (refusals r cs) ≡ false
 never-20 r [] = refl
-never-20 r (c ∷ cs) = λ i. not-true (eqb (refusal r c) 20) (first-each (λ n. not (eqb n 20)) (tests (standing r) c) (tables (standing r) c .no-twenty) refl) i || never-20 (next r c) cs i
+never-20 r (c ∷ cs) = λ i. not-true (eqb (refusal r c) 20) (first-each (λ n. not (eqb n 20)) (tests (plainState r) c) (tables (plainState r) c .no-twenty) refl) i || never-20 (next r c) cs i
 
 -- ---- the claim
 
@@ -225,8 +225,8 @@ pub every-trace : EveryTrace
 every-trace b e calls ns gs f t =
     let s = traced freshReading fresh-kept (f ∙ fresh-holds) t in
     let r : Reading = after freshReading calls in
-    let h : standingOf e ≡ standing r = ap standingOf (s .book) ∙ holds-standing r in
-    let stage : r .stage ≡ e .line .stage = sym (ap (λ (v : Standing). v .line .stage) h) in
+    let h : stateOf e ≡ plainState r = ap stateOf (s .book) ∙ holds-state r in
+    let stage : r .stage ≡ e .line .stage = sym (ap (λ (v : LineState). v .line .stage) h) in
     record {
       numbers = s .numbers;
       given = s .gave;

@@ -1,4 +1,4 @@
--- What every taken call keeps of the standing list. So no book that calls from a fresh one leave meets the test of 20, and a closed line is at least 1 long.
+-- What every taken call keeps of the state of a line. So no book that calls from a fresh one leave meets the test of 20, and a closed line is at least 1 long.
 use mathlib.Core.Path.{_≡_, refl, sym, ap, subst, _∙_}
 use mathlib.Core.Bool.{Bool, true, false, not, cond, _&&_, _||_}
 use mathlib.Core.List.{List, [], _∷_, _++_}
@@ -31,11 +31,11 @@ use Rattle.rules.specs.declared.Run.{Run}
 use Rattle.rules.specs.declared.Line.{Line}
 use Rattle.rules.specs.declared.Waiting.{Waiting}
 use Rattle.rules.specs.declared.Waiting.the-variants.{Nothing, Outward}
-use Rattle.rules.specs.Standing.{Standing, isFresh, isOpen, isClosed, isShut, isEmpty, isReturn, outwardOrReturn, noRun, oneWay, bothWays, waitingBroken, misplaced, lineBroken}
+use Rattle.rules.specs.LineState.{LineState, isFresh, isOpen, isClosed, isShut, isEmpty, isReturn, outwardOrReturn, noRun, oneWay, bothWays, waitingBroken, misplaced, lineBroken}
 use Rattle.rules.specs.Rules.{Call, open-line, station, end-run, drop-run, drop-section, close-line, open-spur, close-spur, collimation, isClosing, broken, inputTests, stateTests, refusal, bookRefusal, numberInRange, discrepancyWithin, classOf, openingOf, begun, closedAt, withRuns, withSection, runEnded, taken}
 use Rattle.rules.proofs.Tables.{fails}
 use Rattle.ledger.specs.Plain as Plain
-use Rattle.ledger.specs.Plain.{Reading, freshReading, after, next, standing}
+use Rattle.ledger.specs.Plain.{Reading, freshReading, after, next, plainState}
 use Rattle.ledger.proofs.Follows.{follows}
 use Rattle.ledger.proofs.Runs.{Sized, no-run-sized, station-sized, run-fits, one-way-fits, both-ways-fits, narrow, one-way-narrow, both-ways-narrow}
 
@@ -54,7 +54,7 @@ abbrev pub Awaits : ℕ → Waiting → Type 0
 Awaits n Nothing = Unit {0}
 Awaits n (Outward number run) = Sized run × (n < 64) × (natAbs number ≤ 9999)
 
-pub record Kept (v : Standing) : Type 0 where
+pub record Kept (v : LineState) : Type 0 where
   pub few : length (v .sections) ≤ 64
   pub fit : All sectionFits (v .sections)
   pub present : Sized (v .line .present)
@@ -68,7 +68,7 @@ pub record Kept (v : Standing) : Type 0 where
   pub narrow-sections : All narrow (v .sections)
 
 -- so the test of 20 does not hold
-pub kept-whole : (v : Standing) → Kept v → (c : Call) → broken v c ≡ false
+pub kept-whole : (v : LineState) → Kept v → (c : Call) → broken v c ≡ false
 unfolding lineBroken
 kept-whole v i c =
     λ j. (none (isClosing c) j
@@ -84,10 +84,10 @@ kept-whole v i c =
     waits (Outward number run) k = λ j. not (run-fits run (k .0) j) || lt-leb 64 (length (v .sections)) (k .1) j
 
 -- an open line is not fresh: what is left to see is what waits
-abbrev stray : Standing → Bool
+abbrev stray : LineState → Bool
 stray v = isReturn (v .line .waiting) && not (termsOf (v .line .opening .class) .double)
 
-no-stray : (v : Standing) → Kept v → stray v ≡ false
+no-stray : (v : LineState) → Kept v → stray v ≡ false
 no-stray v i =
     let full = isFresh (v .line .stage) && not (eqb (length (v .sections)) 0 && eqb (v .line .present .count) 0 && not (isReturn (v .line .waiting))) in
     or-r full (stray v) (or-l (full || stray v) (isClosed (v .line .stage) && eqb (length (v .sections)) 0) (i .placed))
@@ -107,7 +107,7 @@ open-placed l n o e =
     not-shut Closed e = no-true e
 
 -- other runs beside the same sections
-runs-kept : (v : Standing) (w : Waiting) (u : Run) → Kept v → isOpen (v .line .stage) ≡ true → Awaits (length (v .sections)) w → Sized u
+runs-kept : (v : LineState) (w : Waiting) (u : Run) → Kept v → isOpen (v .line .stage) ≡ true → Awaits (length (v .sections)) w → Sized u
     → isReturn w && not (termsOf (v .line .opening .class) .double) ≡ false → Kept (record { line = withRuns (v .line) w u; sections = v .sections })
 runs-kept v w u i o k h e =
     record {
@@ -126,7 +126,7 @@ runs-kept v w u i o k h e =
 -- ---- the end of a run
 
 -- a section more, one that fits and for which there is room
-section-kept : (v : Standing) (x : Section) → Kept v → isOpen (v .line .stage) ≡ true → length (v .sections) < 64 → sectionFits x ≡ true → narrow x ≡ true
+section-kept : (v : LineState) (x : Section) → Kept v → isOpen (v .line .stage) ≡ true → length (v .sections) < 64 → sectionFits x ≡ true → narrow x ≡ true
     → Kept (withSection v x)
 section-kept v x i o room e n =
     record {
@@ -149,7 +149,7 @@ number-size n e =
     omega (ints, parts-abs n)
 
 -- by the tests 4, 21, 29, 31 and 32
-run-kept : (v : Standing) (number : ℤ) → Kept v → refusal v (end-run number) ≡ 0 → Kept (runEnded v number)
+run-kept : (v : LineState) (number : ℤ) → Kept v → refusal v (end-run number) ≡ 0 → Kept (runEnded v number)
 run-kept v number i e =
     let test = fails v (end-run number) e in
     let some : 0 < u .count = omega (arith, eqb-false (u .count) 0 (or-l (eqb (u .count) 0) (eqb (u .count % 2) 1) (test 29))) in
@@ -189,7 +189,7 @@ not-empty : (ss : List Section) → isEmpty ss ≡ false → 1 ≤ length ss
 not-empty [] e = no-true (sym e)
 not-empty (x ∷ xs) e = omega arith
 
-running-station : (v : Standing) (kb kf : ℤ) (readings : List (List ℤ)) → refusal v (station kb kf readings) ≡ 0 → isOpen (v .line .stage) ≡ true
+running-station : (v : LineState) (kb kf : ℤ) (readings : List (List ℤ)) → refusal v (station kb kf readings) ≡ 0 → isOpen (v .line .stage) ≡ true
 running-station v kb kf readings e =
     not-false (isOpen (v .line .stage))
     (or-l (not (isOpen (v .line .stage))) (isShut v) (fails v (station kb kf readings) e 21))
@@ -211,7 +211,7 @@ opened-kept o four five =
     }
 
 -- one that is closed on a height in range, by the test 33
-closed-kept : (v : Standing) (end : ℤ) → Kept v → heightInRange end ≡ true → not (eqb (v .line .present .count) 0) || isReturn (v .line .waiting) || isEmpty (v .sections) ≡ false
+closed-kept : (v : LineState) (end : ℤ) → Kept v → heightInRange end ≡ true → not (eqb (v .line .present .count) 0) || isReturn (v .line .waiting) || isEmpty (v .sections) ≡ false
     → Kept (record { line = closedAt (v .line) end; sections = v .sections })
 closed-kept v end i known ready =
     let some : 1 ≤ length (v .sections) = not-empty (v .sections) (or-r (not (eqb (v .line .present .count) 0) || isReturn (v .line .waiting)) (isEmpty (v .sections)) ready) in
@@ -228,7 +228,7 @@ closed-kept v end i known ready =
       narrow-sections = i .narrow-sections;
     }
 
-taken-kept : (v : Standing) (c : Call) → Kept v → refusal v c ≡ 0 → Kept (taken v c)
+taken-kept : (v : LineState) (c : Call) → Kept v → refusal v c ≡ 0 → Kept (taken v c)
 taken-kept v (open-line order instrument number height) i e =
     let test = fails v (open-line order instrument number height) e in opened-kept (openingOf (classOf order) instrument number height) (test 4) (test 5)
 taken-kept v (station kb kf readings) i e =
@@ -258,7 +258,7 @@ taken-kept v (collimation x) i e =
 
 -- ---- no call shortens the list of sections: one that opens a line finds none
 
-fresh-none : (v : Standing) → Kept v → isFresh (v .line .stage) ≡ true → length (v .sections) ≡ 0
+fresh-none : (v : LineState) → Kept v → isFresh (v .line .stage) ≡ true → length (v .sections) ≡ 0
 fresh-none v i e =
     let n = eqb (length (v .sections)) 0 in
     let u = eqb (v .line .present .count) 0 in
@@ -268,7 +268,7 @@ fresh-none v i e =
     let empty = not-false (n && u && w) (sym (λ j. e j && not (n && u && w)) ∙ full) in
     eqb→eq (length (v .sections)) 0 (holds (and-l n u (and-l (n && u) w empty)))
 
-run-longer : (v : Standing) (number : ℤ) (w : Waiting) (t : Bool)
+run-longer : (v : LineState) (number : ℤ) (w : Waiting) (t : Bool)
     → length (v .sections)
     ≤ length (outwardOrReturn w
     (cond t (record { line = withRuns (v .line) (Outward number (v .line .present)) noRun; sections = v .sections }) (withSection v (oneWay number (v .line .present))))
@@ -277,7 +277,7 @@ run-longer v number Nothing true = le-refl (length (v .sections))
 run-longer v number Nothing false = rw (length-append (v .sections) (oneWay number (v .line .present) ∷ [])) (omega arith)
 run-longer v number (Outward outward run) t = rw (length-append (v .sections) (bothWays outward run (v .line .present) ∷ [])) (omega arith)
 
-pub no-shorter : (v : Standing) (c : Call) → Kept v → refusal v c ≡ 0 → length (v .sections) ≤ length (taken v c .sections)
+pub no-shorter : (v : LineState) (c : Call) → Kept v → refusal v c ≡ 0 → length (v .sections) ≤ length (taken v c .sections)
 no-shorter v (open-line order instrument number height) i e =
     omega (arith, fresh-none v i (not-false (isFresh (v .line .stage)) (fails v (open-line order instrument number height) e 21)))
 no-shorter v (station kb kf readings) i e = le-refl (length (v .sections))
@@ -292,29 +292,29 @@ no-shorter v (collimation x) i e = le-refl (length (v .sections))
 
 -- ---- a list of calls
 
-pub next-kept : (r : Reading) (c : Call) → Kept (standing r) → Kept (standing (next r c))
+pub next-kept : (r : Reading) (c : Call) → Kept (plainState r) → Kept (plainState (next r c))
 next-kept r c i =
-    by-test (eqb (refusal (standing r) c) 0) (λ t. Kept (standing (cond t (Plain.taken r c) r)))
-    (λ t. subst Kept (sym (follows r c)) (taken-kept (standing r) c i (eqb→eq (refusal (standing r) c) 0 t))) (λ t. i)
+    by-test (eqb (refusal (plainState r) c) 0) (λ t. Kept (plainState (cond t (Plain.taken r c) r)))
+    (λ t. subst Kept (sym (follows r c)) (taken-kept (plainState r) c i (eqb→eq (refusal (plainState r) c) 0 t))) (λ t. i)
 
-after-kept : (calls : List Call) (r : Reading) → Kept (standing r) → Kept (standing (after r calls))
+after-kept : (calls : List Call) (r : Reading) → Kept (plainState r) → Kept (plainState (after r calls))
 after-kept [] r i = i
 after-kept (c ∷ cs) r i = after-kept cs (next r c) (next-kept r c i)
 
-pub fresh-kept : Kept (standing freshReading)
+pub fresh-kept : Kept (plainState freshReading)
 fresh-kept =
     record { few = omega arith; fit = refl; present = no-run-sized; waiting = tt; start = refl; end = refl; closed = λ c. absurd (fresh-not-closed c); placed = refl; number = omega arith; narrow-sections = refl }
 
-pub calls-kept : (calls : List Call) → Kept (standing (after freshReading calls))
+pub calls-kept : (calls : List Call) → Kept (plainState (after freshReading calls))
 calls-kept calls = after-kept calls freshReading fresh-kept
 
 -- ---- so a book made by calls never meets the test of 20
 
-pub never-broken : (calls : List Call) (c : Call) → broken (standing (after freshReading calls)) c ≡ false
-never-broken calls c = kept-whole (standing (after freshReading calls)) (calls-kept calls) c
+pub never-broken : (calls : List Call) (c : Call) → broken (plainState (after freshReading calls)) c ≡ false
+never-broken calls c = kept-whole (plainState (after freshReading calls)) (calls-kept calls) c
 
 -- and a book gives the number that the rules give
-pub same-refusal : (v : Standing) (c : Call) → Kept v → bookRefusal v c ≡ refusal v c
+pub same-refusal : (v : LineState) (c : Call) → Kept v → bookRefusal v c ≡ refusal v c
 unfolding bookRefusal
 same-refusal v c i =
     ap (λ (b : Bool). firstOf (inputTests c ++ ((20, b) ∷ stateTests v c))) (kept-whole v i c) ∙ first-skips (inputTests c) (stateTests v c) 20
@@ -322,8 +322,8 @@ same-refusal v c i =
 -- ---- the length
 
 pub closed-long : (calls : List Call) → after freshReading calls .stage ≡ Closed
-    → pos 1 ≤ℤ lineLength (standing (after freshReading calls) .sections)
+    → pos 1 ≤ℤ lineLength (plainState (after freshReading calls) .sections)
 closed-long calls e =
-    let i : Kept (standing (after freshReading calls)) = calls-kept calls in
-    let ss : List Section = standing (after freshReading calls) .sections in
+    let i : Kept (plainState (after freshReading calls)) = calls-kept calls in
+    let ss : List Section = plainState (after freshReading calls) .sections in
     omega (ints, long ss (fitted-legs ss (i .fit)), i .closed e)

@@ -13,9 +13,9 @@ use Rattle.adjust.specs.Terms.{termsOf}
 use Rattle.adjust.specs.Line.{lineFrame, Closing, closing}
 use Rattle.adjust.specs.Claims.{Near, corrections, lastHeight, rawHeights}
 use Rattle.rules.specs.declared.Stage.the-variants.{Open, Closed}
-use Rattle.rules.specs.Standing.{Standing}
+use Rattle.rules.specs.LineState.{LineState}
 use Rattle.rules.specs.Rules.{Call, drop-run, drop-section, close-line, close-spur, bookTests, bookRefusal, rank}
-use Rattle.ledger.specs.Plain.{Reading, freshReading, after, next, taken, refusal, standing, withLists, closings}
+use Rattle.ledger.specs.Plain.{Reading, freshReading, after, next, taken, refusal, plainState, withLists, closings}
 
 -- ---- a closing
 
@@ -37,7 +37,7 @@ Ends true end gave = KnownEnd end gave
 Ends false end gave = gave .summary .closure ≡ pos 0
 
 -- `gave` is what closing a line gave that then stood as v
-pub record SoundClosing (v : Standing) (gave : Closing) : Type 0 where
+pub record SoundClosing (v : LineState) (gave : Closing) : Type 0 where
   -- W, L, n, T, the verdict and each point are what the formulas make of v and its known heights
   pub figures : gave ≡ closing (v .line .opening) (v .line .end) (v .sections)
   -- the bounds of `near` are multiples of L, so they bind
@@ -48,7 +48,7 @@ pub record SoundClosing (v : Standing) (gave : Closing) : Type 0 where
 -- a spur's heights are start plus running Q, rounded to even
 abbrev pub SpurHeights : Type 0
 SpurHeights =
-    (v : Standing) (gave : Closing) → SoundClosing v gave → termsOf (v .line .opening .class) .tied ≡ false
+    (v : LineState) (gave : Closing) → SoundClosing v gave → termsOf (v .line .opening .class) .tied ≡ false
     → map (λ (p : Point). p .height) (others (gave .points)) ≡ rawHeights (pos 4 *ℤ v .line .opening .start .height) (v .sections)
 
 -- the call that closes a line: END where it is tied to a known height, and FIN where it is not, as on a spur
@@ -67,7 +67,7 @@ pub record ClosedOnce (calls : List Call) (all : List Closing) : Type 0 where
   pub accepted : refusal (after freshReading before) call ≡ 0
   pub gave : Closing
   pub once : all ≡ gave ∷ []
-  pub sound : SoundClosing (standing (taken (after freshReading before) call)) gave
+  pub sound : SoundClosing (plainState (taken (after freshReading before) call)) gave
   pub stays : after freshReading calls ≡ taken (after freshReading before) call
 
 -- whatever the calls, taken or refused: a line that they leave closed was closed once and soundly
@@ -78,7 +78,7 @@ EveryList = (calls : List Call) → after freshReading calls .stage ≡ Closed �
 
 -- a book answers the lowest number that applies
 abbrev pub LowestGiven : Type 0
-LowestGiven = (v : Standing) (c : Call) → Lowest rank (bookTests v c) (bookRefusal v c)
+LowestGiven = (v : LineState) (c : Call) → Lowest rank (bookTests v c) (bookRefusal v c)
 
 -- ---- refused calls
 

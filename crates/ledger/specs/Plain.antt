@@ -20,7 +20,7 @@ use Rattle.rules.specs.declared.Stage.the-variants.{Fresh, Open, Closed}
 use Rattle.rules.specs.declared.Run.{Run}
 use Rattle.rules.specs.declared.Waiting.{Waiting}
 use Rattle.rules.specs.declared.Waiting.the-variants.{Nothing, Outward}
-use Rattle.rules.specs.Standing.{Standing, oneWay, bothWays}
+use Rattle.rules.specs.LineState.{LineState, oneWay, bothWays}
 use Rattle.rules.specs.Rules as Rules
 use Rattle.rules.specs.Rules.{Call, open-line, station, end-run, drop-run, drop-section, close-line, open-spur, close-spur, collimation, classOf, openingOf, collimated, isClosing}
 
@@ -67,8 +67,8 @@ abbrev pub waitingOf : Option Awaited → Waiting
 waitingOf none = Nothing
 waitingOf (some w) = Outward (w .number) (runOf (w .outward))
 
-abbrev pub standing : Reading → Standing
-standing r =
+abbrev pub plainState : Reading → LineState
+plainState r =
     record {
       line =
           record {
@@ -157,7 +157,7 @@ taken r (collimation x) = withOpening r (collimated (r .opening))
 -- ---- a list of calls
 
 abbrev pub refusal : Reading → Call → ℕ
-refusal r c = Rules.refusal (standing r) c
+refusal r c = Rules.refusal (plainState r) c
 
 -- a refused call changes nothing of what is kept
 abbrev pub next : Reading → Call → Reading
@@ -185,7 +185,7 @@ refusals r (c ∷ cs) = refusal r c ∷ refusals (next r c) cs
 
 -- the figures of closing a reading's line on the end height that it keeps
 abbrev pub figuresOf : Reading → Closing
-figuresOf r = closing (r .opening) (r .end) (standing r .sections)
+figuresOf r = closing (r .opening) (r .end) (plainState r .sections)
 
 -- what a call that is taken gives beside the book: a closing its figures, another call nothing
 abbrev pub given : Reading → Call → List Closing

@@ -15,7 +15,7 @@ use Rattle.book.specs.declared.Step.{Step}
 use Rattle.book.specs.declared.Outcome.{Outcome}
 use Rattle.book.specs.declared.ClosedFigures.{ClosedFigures}
 use Rattle.book.specs.declared.CloseOutcome.{CloseOutcome}
-use Rattle.rules.specs.Standing.{standingOf, bookWith}
+use Rattle.rules.specs.LineState.{stateOf, bookWith}
 use Rattle.rules.specs.Rules.{Call, open-line, station, end-run, drop-run, drop-section, close-line, open-spur, close-spur, collimation, isClosing}
 use Rattle.rules.specs.Records.{callOf}
 use Rattle.book.specs.Calls.{freshBook, closeNumber, closeFigures, gaveOf}
@@ -31,7 +31,7 @@ use Rattle.book.proofs.calls.close_spur.Reads as close-spur-reads
 use Rattle.book.proofs.calls.collimation.Reads as collimation-reads
 use Rattle.book.proofs.calls.figures_of.Reads as figures-of-reads
 use Rattle.book.proofs.calls.take.Reads as take-reads
-use Rattle.ledger.specs.Plain.{freshReading, after, refusals, closings, standing}
+use Rattle.ledger.specs.Plain.{freshReading, after, refusals, closings, plainState}
 use Rattle.ledger.specs.Claims.{ClosedOnce, takenOnly}
 
 abbrev pub FreshEnsures : Book → Type 0
@@ -93,8 +93,8 @@ pub record SoundTrace (calls : List Call) (ns : List ℕ) (gs : List Closing) (e
   pub numbers : ns ≡ refusals freshReading calls
   pub given : gs ≡ closings freshReading calls
   -- the book holds the standing list's counts and sums, and nothing else
-  pub holds : standingOf e ≡ standing (after freshReading calls)
-  pub book : e ≡ bookWith freshBook (standing (after freshReading calls))
+  pub holds : stateOf e ≡ plainState (after freshReading calls)
+  pub book : e ≡ bookWith freshBook (plainState (after freshReading calls))
   -- no call found the book broken
   pub never-20 : anyOf (λ n. eqb n 20) ns ≡ false
   -- a line that the calls left closed was closed once and soundly

@@ -10,9 +10,9 @@ use Rattle.station.specs.Station.{Station, stationOf, sightDifference, faceDiff
 use Rattle.adjust.specs.declared.Section.{Section}
 use Rattle.adjust.specs.declared.Point.{Point}
 use Rattle.adjust.specs.Line.{Frame, frameOf, exactTop, closure, Closing, accidental}
-use Rattle.rules.specs.Standing.{Standing, outwardOrReturn, bothWays}
+use Rattle.rules.specs.LineState.{LineState, outwardOrReturn, bothWays}
 use Rattle.rules.specs.Rules.{Call, open-line, station, end-run, close-line, open-spur, close-spur, collimation}
-use Rattle.ledger.specs.Plain.{freshReading, after, refusals, standing, runOf, closings}
+use Rattle.ledger.specs.Plain.{freshReading, after, refusals, plainState, runOf, closings}
 
 -- ---- the stations of case A
 
@@ -80,11 +80,11 @@ outAndBack red = goneBack red ++ (end-run (pos 1) ∷ [])
 -- the section that the end of the return is judged by: of what waits and the present run
 abbrev returned : ℕ → List Section
 returned red =
-    let v : Standing = standing (after freshReading (goneBack red)) in
+    let v : LineState = plainState (after freshReading (goneBack red)) in
     outwardOrReturn (v .line .waiting) [] (λ number run. bothWays number run (v .line .present) ∷ [])
 
 abbrev twoFrame : ℕ → ℕ → Frame
-twoFrame start end = frameOf (pos start) (pos end) (standing (after freshReading (two start end)) .sections)
+twoFrame start end = frameOf (pos start) (pos end) (plainState (after freshReading (two start end)) .sections)
 
 abbrev section : ℕ → ℕ → ℕ → ℕ → Section
 section n q r d = record { number = pos n; height = pos q; distance = pos r; discrepancy = pos d }
@@ -107,10 +107,10 @@ pub record Starred : Type 0 where
   pub second-height : twiceHeight s2 ≡ negℤ (pos 349)
   pub accumulated : runOf (s1 ∷ s2 ∷ []) .difference ≡ negℤ (pos 4)
   -- A's section 1, and that section alone from 10000
-  pub section-1 : standing (after freshReading (one 10000 10651)) .sections ≡ section 2 2632 2564 0 ∷ []
+  pub section-1 : plainState (after freshReading (one 10000 10651)) .sections ≡ section 2 2632 2564 0 ∷ []
   pub w28 : closures (closings freshReading (one 10000 10651)) ≡ pos 28 ∷ []
   pub w28-taken : refusals freshReading (one 10000 10651) ≡ 0 ∷ 0 ∷ 0 ∷ 0 ∷ 0 ∷ 0 ∷ []
-  pub w32 : closure (pos 10000) (pos 10650) (standing (after freshReading (one 10000 10650)) .sections) ≡ pos 32
+  pub w32 : closure (pos 10000) (pos 10650) (plainState (after freshReading (one 10000 10650)) .sections) ≡ pos 32
   pub w32-refused : refusals freshReading (one 10000 10650) ≡ 0 ∷ 0 ∷ 0 ∷ 0 ∷ 0 ∷ 36 ∷ []
   -- R 2564: the end of a return with D 8 is taken, with D 9 refused
   pub d8 : returned 6067 ≡ section 2 2624 2564 8 ∷ []
@@ -119,7 +119,7 @@ pub record Starred : Type 0 where
   pub d9-refused : refusals freshReading (outAndBack 6066) ≡ 0 ∷ 0 ∷ 0 ∷ 0 ∷ 0 ∷ 0 ∷ 0 ∷ 32 ∷ []
   pub t : accidental (section 2 0 20000 24) ≡ pos 14400
   -- A's section 2 twice: the middle is 21099 / 2 and 21101 / 2, at Q 2200 and R 1600
-  pub section-2 : standing (after freshReading (two 10000 11099)) .sections ≡ section 2 2200 1600 0 ∷ section 3 2200 1600 0 ∷ []
+  pub section-2 : plainState (after freshReading (two 10000 11099)) .sections ≡ section 2 2200 1600 0 ∷ section 3 2200 1600 0 ∷ []
   pub tie-1-w : closures (closings freshReading (two 10000 11099)) ≡ pos 4 ∷ []
   pub tie-1-exact : pos 2 *ℤ exactTop (twoFrame 10000 11099) (pos 2200) (pos 1600)
       ≡ pos 21099 *ℤ (twoFrame 10000 11099 .units *ℤ twoFrame 10000 11099 .total)
@@ -175,7 +175,7 @@ corrected cs = map (λ (c : Closing). map (λ (p : Point). p .correction) (c .po
 
 -- R 2564: a return with D 14 is taken, with D 15 refused. FIN closes it, END does not; a height of 10654.5 is printed as the even 10654
 pub record SpurWorked : Type 0 where
-  pub d14 : standing (after freshReading (spurOutAndBack 1377 6064)) .sections ≡ section 2 2618 2564 14 ∷ []
+  pub d14 : plainState (after freshReading (spurOutAndBack 1377 6064)) .sections ≡ section 2 2618 2564 14 ∷ []
   pub d14-taken : refusals freshReading (spurOutAndBack 1377 6064) ≡ 0 ∷ 0 ∷ 0 ∷ 0 ∷ 0 ∷ 0 ∷ 0 ∷ 0 ∷ []
   pub d15-refused : refusals freshReading (spurOutAndBack 1377 6063) ≡ 0 ∷ 0 ∷ 0 ∷ 0 ∷ 0 ∷ 0 ∷ 0 ∷ 32 ∷ []
   pub by-end : refusals (after freshReading (spurOutAndBack 1377 6064)) (close-line (pos 2) (pos 10655) ∷ close-line (pos 0) (pos 0) ∷ close-spur (pos 1) ∷ close-spur (pos 2) ∷ close-spur (pos 2) ∷ [])

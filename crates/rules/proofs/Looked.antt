@@ -19,7 +19,7 @@ use Rattle.adjust.proofs.Lent.{any-alike}
 use Rattle.rules.specs.declared.Line.{Line}
 use Rattle.rules.specs.declared.Book.{Book}
 use Rattle.rules.specs.declared.state.Seen.{Seen}
-use Rattle.rules.specs.Standing.{Standing, standingOf, isFresh, isOpen, isEmpty, isReturn, isShut, began, onLine, outwardOrReturn, bothWays, lineBroken}
+use Rattle.rules.specs.LineState.{LineState, stateOf, isFresh, isOpen, isEmpty, isReturn, isShut, began, onLine, outwardOrReturn, bothWays, lineBroken}
 use Rattle.rules.specs.Rules.{open-line, station, end-run, drop-run, open-spur, collimation, openTests, closeTests, stateTests, discrepancyWithin, inputTests, stationTests, bookRefusal}
 use Rattle.rules.specs.code.Seen.{numbered, numbersIn, beside, isAmong, seenIn}
 use Rattle.rules.specs.code.Opened.{openRefusal}
@@ -55,10 +55,10 @@ module _ (b : Book) where
   abbrev lent : Sections
   lent = numbered (b .sections .count) (b .sections .numbers)
 
-  abbrev v : Standing
-  v = standingOf b
+  abbrev v : LineState
+  v = stateOf b
 
-  abbrev w : Standing
+  abbrev w : LineState
   w = numbersIn (b .line) (b .sections .count) (b .sections .numbers)
 
   -- a number is on the line of the arrays' sections where it is among the numbers

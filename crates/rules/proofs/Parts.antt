@@ -7,7 +7,7 @@ use lib.Dec.{eqb}
 use borrow.Author.Tests.{ne-eqb}
 use Rattle.numbers.specs.Tables.{firstOf}
 use Rattle.numbers.proofs.Tables.{numbered, first-append}
-use Rattle.rules.specs.Standing.{Standing}
+use Rattle.rules.specs.LineState.{LineState}
 use Rattle.rules.specs.Rules.{Call, broken, inputTests, stateTests, bookRefusal}
 use Rattle.rules.proofs.Tables.{tables}
 
@@ -30,7 +30,7 @@ module _ (is ss : List (ℕ × Bool)) (twenty : Bool) (numbers : numbered is ≡
   first-later : (n : ℕ) → firstOf is ≡ 0 → n ≡ firstOf ((20, twenty) ∷ ss) → n ≡ firstOf (is ++ ((20, twenty) ∷ ss))
   first-later n e s = s ∙ sym (by-parts 0 true twenty (firstOf ss) e refl refl refl)
 
-module _ (v : Standing) (c : Call) where
+module _ (v : LineState) (c : Call) where
   pub input-refused : (n : ℕ) → n ≡ firstOf (inputTests c) → (n ≡ 0 → ⊥) → n ≡ bookRefusal v c
   unfolding bookRefusal
   input-refused = first-input (inputTests c) (stateTests v c) (broken v c) (tables v c .inputs)

@@ -1,4 +1,4 @@
--- The tables of the calls' tests: what their numbers satisfy, computed for every standing list at once, a line for each call; and that a call that is
+-- The tables of the calls' tests: what their numbers satisfy, computed for every state of a line at once, a line for each call; and that a call that is
 -- taken fails every test.
 use mathlib.Core.Path.{_≡_, refl, sym, _∙_}
 use mathlib.Core.Bool.{Bool, true, false, not, _&&_}
@@ -11,14 +11,14 @@ use lib.IntN.{ℤ}
 use Rattle.adjust.specs.Sections.{misfit}
 use Rattle.numbers.proofs.Tests.{or-r}
 use Rattle.numbers.proofs.Tables.{eachNumber, numbered, testOf, failed, rises}
-use Rattle.rules.specs.Standing.{Standing, lineBroken}
+use Rattle.rules.specs.LineState.{LineState, lineBroken}
 use Rattle.rules.specs.Rules.{Call, open-line, station, end-run, drop-run, drop-section, close-line, open-spur, close-spur, collimation, isClosing, broken, inputTests, stateTests, refusal, bookTests, bookRefusal, rank}
 
 -- a call's tests
-abbrev pub tests : Standing → Call → List (ℕ × Bool)
+abbrev pub tests : LineState → Call → List (ℕ × Bool)
 tests v c = inputTests c ++ stateTests v c
 
-pub record Tables (v : Standing) (c : Call) : Type 0 where
+pub record Tables (v : LineState) (c : Call) : Type 0 where
   -- no number is 0
   pub inputs : numbered (inputTests c) ≡ true
   pub all : numbered (tests v c) ≡ true
@@ -31,7 +31,7 @@ pub record Tables (v : Standing) (c : Call) : Type 0 where
   pub rising : rises rank 0 (tests v c) ≡ true
   pub book-rising : rises rank 0 (bookTests v c) ≡ true
 
-pub tables : (v : Standing) (c : Call) → Tables v c
+pub tables : (v : LineState) (c : Call) → Tables v c
 tables v (open-line order instrument number height) = search needs
 tables v (station kb kf readings) = search needs
 tables v (end-run number) = search needs
@@ -42,7 +42,7 @@ tables v (open-spur order instrument number height) = search needs
 tables v (close-spur number) = search needs
 tables v (collimation x) = search needs
 
-module _ (v : Standing) (c : Call) where
+module _ (v : LineState) (c : Call) where
   pub fails : refusal v c ≡ 0 → (n : ℕ) → testOf n (tests v c) ≡ false
   fails e = failed (tests v c) (tables v c .all) e
 

@@ -19,7 +19,7 @@ use Rattle.rules.specs.declared.Waiting.{Waiting}
 use Rattle.rules.specs.declared.Waiting.the-variants.{Nothing, Outward}
 use Rattle.rules.specs.declared.Line.{Line}
 use Rattle.rules.specs.code.Bounds.{SmallRun, SmallRuns}
-use Rattle.rules.specs.Standing.{isFresh, isClosed, isEmpty, isReturn, runFits, waitingBroken, misplaced, lineBroken, mostG, mostS, mostDifference}
+use Rattle.rules.specs.LineState.{isFresh, isClosed, isEmpty, isReturn, runFits, waitingBroken, misplaced, lineBroken, mostG, mostS, mostDifference}
 
 pub small-run : (u : Run) → runFits u ≡ true → SmallRun u
 small-run u e =

@@ -1,4 +1,4 @@
-pub mod Standing
+pub mod LineState
 pub mod Rules
 pub mod Records
 pub mod code

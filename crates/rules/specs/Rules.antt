@@ -30,7 +30,7 @@ use Rattle.rules.specs.declared.Run.{Run}
 use Rattle.rules.specs.declared.Waiting.{Waiting}
 use Rattle.rules.specs.declared.Waiting.the-variants.{Nothing, Outward}
 use Rattle.rules.specs.declared.Line.{Line}
-use Rattle.rules.specs.Standing.{Standing, isFresh, isOpen, isClosed, isEmpty, onLine, isShut, began, outwardOrReturn, isReturn, noRun, withStation, oneWay, bothWays, lineBroken}
+use Rattle.rules.specs.LineState.{LineState, isFresh, isOpen, isClosed, isEmpty, onLine, isShut, began, outwardOrReturn, isReturn, noRun, withStation, oneWay, bothWays, lineBroken}
 
 -- open, a line or a spur: order, instrument, start number and height; station: the constants and the readings, back and fore; end run: the benchmark's number;
 -- close: the last number, and of a line that is no spur the end height; collimation: its six values
@@ -63,7 +63,7 @@ outOfTurn l kb =
     cond (eqb (l .present .count) 0) (outwardOrReturn (l .waiting) false (λ number run. eqZ kb (run .last))) (not (eqZ kb (l .present .last)))
 
 -- an outward run ends on a number not yet on the line, the start number alone excepted once a section stands, but not on a spur; a return where its section began
-abbrev pub numberAllowed : Standing → ℤ → Bool
+abbrev pub numberAllowed : LineState → ℤ → Bool
 numberAllowed v number =
     cond (isReturn (v .line .waiting)) (eqZ number (began v))
     (not (onLine v number) && not (eqZ number (v .line .opening .start .number) && (isEmpty (v .sections) || not (termsOf (v .line .opening .class) .tied))))
@@ -107,7 +107,7 @@ inputTests (collimation x) = rangeTests (collimationOf x)
 abbrev pub totalTests : Terms → Bool → Totals → List (ℕ × Bool)
 totalTests terms loop t = (35, not (leZ (t .distance) (lengthLimit terms loop))) ∷ (36, not (closureWithin terms (t .closure) (t .distance))) ∷ []
 
-abbrev pub lineTests : Standing → ℤ → List (ℕ × Bool)
+abbrev pub lineTests : LineState → ℤ → List (ℕ × Bool)
 lineTests v end = totalTests (termsOf (v .line .opening .class)) (isShut v) (totals (v .line .opening .start .height) end (v .sections))
 
 -- of a station with the figures f, whose back staff has the constant kb
@@ -120,24 +120,24 @@ stationTests l shut kb f =
     ∷ limitTests (limitsOf (orderOf (l .opening .class)) (l .opening .instrument)) (l .present .difference) f
 
 -- and those that a book makes of it, which also tests for 20
-abbrev pub bookStationTests : Standing → ℤ → Figures → List (ℕ × Bool)
+abbrev pub bookStationTests : LineState → ℤ → Figures → List (ℕ × Bool)
 bookStationTests v kb f = (20, lineBroken (v .line) (length (v .sections))) ∷ stationTests (v .line) (isShut v) kb f
 
 -- of opening, a line or a spur
-abbrev pub openState : Standing → List (ℕ × Bool)
+abbrev pub openState : LineState → List (ℕ × Bool)
 openState v = (21, not (isFresh (v .line .stage))) ∷ []
 
 -- of a closing on a number, by END or by FIN, up to 34: whether the line is one that is closed by the other of the two, and whether the end height is not that of the
 -- start where it must be
-abbrev pub closeTests : Standing → Bool → ℤ → Bool → List (ℕ × Bool)
+abbrev pub closeTests : LineState → Bool → ℤ → Bool → List (ℕ × Bool)
 closeTests v other number unlike =
     (21, not (isOpen (v .line .stage)))
     ∷ (41, other)
     ∷ (33, not (eqb (v .line .present .count) 0) || isReturn (v .line .waiting) || isEmpty (v .sections))
     ∷ (34, not (eqZ number (began v)) || unlike) ∷ []
 
--- what the standing list causes
-abbrev pub stateTests : Standing → Call → List (ℕ × Bool)
+-- what the book's state causes
+abbrev pub stateTests : LineState → Call → List (ℕ × Bool)
 stateTests v (open-line order instrument number height) = openState v
 stateTests v (station kb kf readings) = stationTests (v .line) (isShut v) kb (figuresOf (stationOf kb kf readings))
 stateTests v (end-run number) =
@@ -167,26 +167,26 @@ isClosing (close-spur number) = true
 isClosing (collimation x) = false
 
 -- refusal 20, by what is read: the line, or all sections too
-abbrev pub brokenIn : Bool → Standing → Bool
+abbrev pub brokenIn : Bool → LineState → Bool
 brokenIn sections v = (sections && misfit (v .sections)) || lineBroken (v .line) (length (v .sections))
 
 -- a closing reads them
-abbrev pub broken : Standing → Call → Bool
+abbrev pub broken : LineState → Call → Bool
 broken v c = brokenIn (isClosing c) v
 
 -- the tests of asking for the figures of a closed line
-abbrev pub figuresTests : Standing → List (ℕ × Bool)
+abbrev pub figuresTests : LineState → List (ℕ × Bool)
 figuresTests v = (20, brokenIn true v) ∷ (21, not (isClosed (v .line .stage))) ∷ []
 
 -- the number that the rules give, 0 where the call is taken
-abbrev pub refusal : Standing → Call → ℕ
+abbrev pub refusal : LineState → Call → ℕ
 refusal v c = firstOf (inputTests c ++ stateTests v c)
 
 -- and that a book gives, which also tests for 20
-abbrev pub bookTests : Standing → Call → List (ℕ × Bool)
+abbrev pub bookTests : LineState → Call → List (ℕ × Bool)
 bookTests v c = inputTests c ++ ((20, broken v c) ∷ stateTests v c)
 
-unfoldable pub bookRefusal : Standing → Call → ℕ
+unfoldable pub bookRefusal : LineState → Call → ℕ
 bookRefusal v c = firstOf (bookTests v c)
 
 -- the order in which the numbers are tested: as they stand, but 31 before 30, 41, 45 and 46 directly after 21, and 44 with the input's numbers
@@ -206,11 +206,11 @@ withRuns l waiting present =
       present = present;
     }
 
-abbrev pub withSection : Standing → Section → Standing
+abbrev pub withSection : LineState → Section → LineState
 withSection v x = record { line = withRuns (v .line) Nothing noRun; sections = v .sections ++ (x ∷ []) }
 
 -- a return finishes the section, under the waiting number; an outward run waits, or is a section where sections are levelled one way
-abbrev pub runEnded : Standing → ℤ → Standing
+abbrev pub runEnded : LineState → ℤ → LineState
 runEnded v number =
     outwardOrReturn (v .line .waiting)
     (cond (termsOf (v .line .opening .class) .double)
@@ -248,7 +248,7 @@ closedAt l end =
       present = l .present;
     }
 
-abbrev pub taken : Standing → Call → Standing
+abbrev pub taken : LineState → Call → LineState
 taken v (open-line order instrument number height) = record { line = begun (openingOf (classOf order) instrument number height); sections = [] }
 taken v (station kb kf readings) =
     record {

@@ -5,7 +5,7 @@ ghost use Prim.Native.Nat.{_≤_};
 ghost use Rattle.numbers.specs.Tables.{firstOf};
 ghost use Rattle.adjust.specs.Sections.{sectionsOf, heightInRange};
 ghost use Rattle.adjust.specs.Frames.{figuresFit};
-ghost use Rattle.rules.specs.Standing.{standingIn, isShut};
+ghost use Rattle.rules.specs.LineState.{stateIn, isShut};
 ghost use Rattle.rules.specs.code.Seen.{numbersIn};
 ghost use Rattle.rules.specs.Rules.{close-line, close-spur, closeTests, broken, lengthLimit, totalTests, lineTests, figuresTests, inputTests, stateTests, bookRefusal};
 use super::Line;
@@ -99,9 +99,9 @@ fn close_state<'a>(
     number: i64,
     end: i64,
 ) -> u8
-    requires { ⌜ ((broken (standingIn line count (now numbers) (now heights) (now distances) (now discrepancies)) (close-line number end) ≡ false)
-        × (shut ≡ isShut (standingIn line count (now numbers) (now heights) (now distances) (now discrepancies)))) × (heightInRange end ≡ true) ⌝ }
-    ensures { λ r. ⌜ r ≡ firstOf (stateTests (standingIn line count (now (numbers .entry)) (now (heights .entry)) (now (distances .entry)) (now (discrepancies .entry))) (close-line number end)) ⌝ }
+    requires { ⌜ ((broken (stateIn line count (now numbers) (now heights) (now distances) (now discrepancies)) (close-line number end) ≡ false)
+        × (shut ≡ isShut (stateIn line count (now numbers) (now heights) (now distances) (now discrepancies)))) × (heightInRange end ≡ true) ⌝ }
+    ensures { λ r. ⌜ r ≡ firstOf (stateTests (stateIn line count (now (numbers .entry)) (now (heights .entry)) (now (distances .entry)) (now (discrepancies .entry))) (close-line number end)) ⌝ }
 {
     let opening = line.opening;
     let class = opening.class;
@@ -132,7 +132,7 @@ pub fn close_refusal<'a>(
     number: i64,
     end: i64,
 ) -> u8
-    ensures { λ r. ⌜ r ≡ bookRefusal (standingIn line count (now (numbers .entry)) (now (heights .entry)) (now (distances .entry)) (now (discrepancies .entry))) (close-line number end) ⌝ }
+    ensures { λ r. ⌜ r ≡ bookRefusal (stateIn line count (now (numbers .entry)) (now (heights .entry)) (now (distances .entry)) (now (discrepancies .entry))) (close-line number end) ⌝ }
 {
     let input = close_input(number, end);
     if input != 0 {
@@ -166,7 +166,7 @@ pub fn close_spur_refusal<'a>(
     discrepancies: &'a [i64; 64],
     number: i64,
 ) -> u8
-    ensures { λ r. ⌜ r ≡ bookRefusal (standingIn line count (now (numbers .entry)) (now (heights .entry)) (now (distances .entry)) (now (discrepancies .entry))) (close-spur number) ⌝ }
+    ensures { λ r. ⌜ r ≡ bookRefusal (stateIn line count (now (numbers .entry)) (now (heights .entry)) (now (distances .entry)) (now (discrepancies .entry))) (close-spur number) ⌝ }
 {
     if !number_in_range(number) {
         return 4;

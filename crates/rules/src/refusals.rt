@@ -4,7 +4,7 @@ ghost use mathlib.Core.Bool.{false, not, cond};
 ghost use Prim.Native.Nat.{_≤_};
 ghost use Rattle.numbers.specs.Whole.{eqZ};
 ghost use Rattle.numbers.specs.Tables.{firstOf};
-ghost use Rattle.rules.specs.Standing.{isShut, outwardOrReturn, bothWays};
+ghost use Rattle.rules.specs.LineState.{isShut, outwardOrReturn, bothWays};
 ghost use Rattle.rules.specs.code.Seen.{numbersIn, beside};
 ghost use Rattle.rules.specs.code.Opened.{openRefusal};
 ghost use Rattle.rules.specs.code.Bounds.{SmallRuns};

@@ -6,7 +6,7 @@ ghost use lib.ListN.{length};
 ghost use Rattle.numbers.specs.Whole.{lastOf};
 ghost use Rattle.adjust.specs.declared.Section.{Section};
 ghost use Rattle.adjust.specs.Sections.{sectionsOf};
-ghost use Rattle.rules.specs.Standing.{isFresh, isOpen, isClosed, isReturn, runFits, waitingBroken, misplaced, lineBroken};
+ghost use Rattle.rules.specs.LineState.{isFresh, isOpen, isClosed, isReturn, runFits, waitingBroken, misplaced, lineBroken};
 ghost use Rattle.rules.specs.code.Seen.{numbered, isAmong, seenIn};
 use super::Line;
 use super::Run;

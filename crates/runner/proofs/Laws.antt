@@ -13,10 +13,10 @@ use Rattle.numbers.proofs.Arrays.{drop-next, written-none}
 use Rattle.adjust.specs.Sections.{holding}
 use Rattle.adjust.proofs.Lists.{from-length}
 use Rattle.rules.specs.declared.Book.{Book}
-use Rattle.rules.specs.Standing.{standingOf}
+use Rattle.rules.specs.LineState.{stateOf}
 use Rattle.book.specs.declared.CloseAnswer.the-variants.{Closed, NotClosed}
 use Rattle.book.specs.Calls.{closingOf, figuresRefusal, figuresOf}
-use Rattle.ledger.specs.Plain.{freshReading, standing}
+use Rattle.ledger.specs.Plain.{freshReading, plainState}
 use Rattle.ledger.specs.Entries.{Entry, afterEntries}
 use Rattle.ledger.proofs.Whole.{Kept, fresh-kept}
 use Rattle.ledger.proofs.Again.{bookOf}
@@ -77,7 +77,7 @@ pub few-closed : (b : Book) → b .sections .count ≤ 64 → summaryOf (figures
 unfolding figuresOf
 few-closed b h = go (eqb (figuresRefusal b) 0)
   where
-    go : (t : Bool) → summaryOf (cond t (Closed (closingOf (standingOf b) .summary)) (NotClosed (figuresRefusal b))) .count ≤ 64
+    go : (t : Bool) → summaryOf (cond t (Closed (closingOf (stateOf b) .summary)) (NotClosed (figuresRefusal b))) .count ≤ 64
     go true = omega (arith, from-length (b .sections) 0 (b .sections .count))
     go false = omega arith
 
@@ -85,5 +85,5 @@ few-closed b h = go (eqb (figuresRefusal b) 0)
 pub few-left : (es : List Entry) {b : Book} → b ≡ bookOf (afterEntries freshReading es) → (b .line .present .count ≤ 200) × (b .sections .count ≤ 64)
 unfolding holding
 few-left es e =
-    let k : Kept (standing (afterEntries freshReading es)) = entries-kept freshReading fresh-kept es in
+    let k : Kept (plainState (afterEntries freshReading es)) = entries-kept freshReading fresh-kept es in
     subst (λ (b : Book). (b .line .present .count ≤ 200) × (b .sections .count ≤ 64)) (sym e) (k .present .count, k .few)

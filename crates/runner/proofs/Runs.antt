@@ -15,7 +15,7 @@ use Rattle.ledger.proofs.Entries.{reading-calls, numbers-calls}
 use Rattle.ledger.proofs.Traced.{every-trace}
 use Rattle.runner.specs.Calls.{entriesOf}
 use Rattle.runner.specs.Figures.{summaryOf, headFigures, pointFigures}
-use Rattle.runner.specs.Claims.{standingAfter, EveryRun, RunAsMade}
+use Rattle.runner.specs.Claims.{stateAfter, EveryRun, RunAsMade}
 
 pub every-run : EveryRun
 unfolding holding
@@ -27,7 +27,7 @@ every-run xs shut =
     record {
       closing = every-list calls closed;
       figures =
-          ap (λ (f : ClosedFigures). headFigures (summaryOf (f .answer)) (standingAfter xs .line .present) (length (standingAfter xs .sections)) ++ pointFigures (f .points)) again;
+          ap (λ (f : ClosedFigures). headFigures (summaryOf (f .answer)) (stateAfter xs .line .present) (length (stateAfter xs .sections)) ++ pointFigures (f .points)) again;
     }
 
 pub run-as-made : RunAsMade

@@ -9,9 +9,9 @@ use Rattle.adjust.specs.Line.{Closing}
 use Rattle.adjust.specs.Frames.{noPoint}
 use Rattle.rules.specs.declared.Stage.the-variants.{Closed}
 use Rattle.rules.specs.declared.Book.{Book}
-use Rattle.rules.specs.Standing.{Standing, bookWith}
+use Rattle.rules.specs.LineState.{LineState, bookWith}
 use Rattle.book.specs.Calls.{freshBook}
-use Rattle.ledger.specs.Plain.{freshReading, standing, closings}
+use Rattle.ledger.specs.Plain.{freshReading, plainState, closings}
 use Rattle.ledger.specs.Entries.{afterEntries, callsOf, callNumbers}
 use Rattle.ledger.specs.Claims.{ClosedOnce}
 use Rattle.ledger.specs.Trace.{FreshEnsures, Trace}
@@ -19,15 +19,15 @@ use Rattle.runner.specs.Calls.{entriesOf}
 use Rattle.runner.specs.Figures.{headFigures, pointFigures, bookFigures}
 
 -- what the entries leave
-abbrev pub standingAfter : List ℤ → Standing
-standingAfter xs = standing (afterEntries freshReading (entriesOf xs))
+abbrev pub stateAfter : List ℤ → LineState
+stateAfter xs = plainState (afterEntries freshReading (entriesOf xs))
 
 -- the calls of the entries closed the line once and soundly, and the figures of the book that is left, which `level_run` writes, are that closing's: W, L, n,
 -- T and the verdict in their places, and its points, zeros behind them
 pub record RanClosed (xs : List ℤ) : Type 0 where
   pub closing : ClosedOnce (callsOf (entriesOf xs)) (closings freshReading (callsOf (entriesOf xs)))
-  pub figures : bookFigures (bookWith freshBook (standingAfter xs))
-      ≡ headFigures (closing .gave .summary) (standingAfter xs .line .present) (length (standingAfter xs .sections))
+  pub figures : bookFigures (bookWith freshBook (stateAfter xs))
+      ≡ headFigures (closing .gave .summary) (stateAfter xs .line .present) (length (stateAfter xs .sections))
       ++ pointFigures (filled noPoint 65 (closing .gave .points))
 
 -- whatever the numbers, if their entries leave the line closed
@@ -38,4 +38,4 @@ EveryRun = (xs : List ℤ) → afterEntries freshReading (entriesOf xs) .stage �
 abbrev pub RunAsMade : Type 0
 RunAsMade =
     (xs : List ℤ) (b e : Book) (ns : List ℕ) (gs : List Closing) → FreshEnsures b → Trace b (callsOf (entriesOf xs)) ns gs e
-    → (callNumbers freshReading (entriesOf xs) ≡ ns) × (bookWith freshBook (standingAfter xs) ≡ e)
+    → (callNumbers freshReading (entriesOf xs) ≡ ns) × (bookWith freshBook (stateAfter xs) ≡ e)

@@ -3,9 +3,9 @@ ghost use mathlib.Core.Path.{_≡_};
 ghost use Prim.Native.Nat.{_+_, _/_};
 ghost use lib.ListN.{length, set};
 ghost use Rattle.numbers.specs.Whole.{written};
-ghost use Rattle.rules.specs.Standing.{bookWith};
+ghost use Rattle.rules.specs.LineState.{bookWith};
 ghost use Rattle.book.specs.Calls.{freshBook};
-ghost use Rattle.ledger.specs.Plain.{freshReading, standing};
+ghost use Rattle.ledger.specs.Plain.{freshReading, plainState};
 ghost use Rattle.ledger.specs.Entries.{entryStep, entryRefusals, afterEntries};
 ghost use Rattle.runner.specs.Calls.{kindOf, firstEntry, entriesOf};
 ghost use Rattle.runner.specs.Figures.{bookFigures};
@@ -85,7 +85,7 @@ fn put_number(numbers: &mut [u8], k: usize, number: u8)
 
 // The entries one after another, the first on a fresh book. Each entry's number goes into its place of the lent list, where there is one.
 pub fn run_calls(calls: &[i64], numbers: &mut [u8]) -> Book
-    ensures { λ r. ⌜ (r ≡ bookWith freshBook (standing (afterEntries freshReading (entriesOf (now (calls .entry))))))
+    ensures { λ r. ⌜ (r ≡ bookWith freshBook (plainState (afterEntries freshReading (entriesOf (now (calls .entry))))))
         × (now (numbers .exit) ≡ written (entryRefusals freshReading (entriesOf (now (calls .entry)))) (now (numbers .entry))) ⌝ }
 {
     let n = entry_count(calls);
@@ -108,7 +108,7 @@ pub extern "C" fn level_run(calls: &[i64], numbers: &mut [u8], figures: &mut [i6
     ensures { λ r. ⌜ (r ≡ length (entriesOf (now (calls .entry))))
         × ((now (numbers .exit) ≡ written (entryRefusals freshReading (entriesOf (now (calls .entry)))) (now (numbers .entry)))
         × (now (figures .exit)
-        ≡ written (bookFigures (bookWith freshBook (standing (afterEntries freshReading (entriesOf (now (calls .entry))))))) (now (figures .entry)))) ⌝ }
+        ≡ written (bookFigures (bookWith freshBook (plainState (afterEntries freshReading (entriesOf (now (calls .entry))))))) (now (figures .entry)))) ⌝ }
 {
     let b = run_calls(calls, numbers);
     figures::put_book(b, figures);

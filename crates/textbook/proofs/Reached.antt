@@ -19,7 +19,7 @@ use Rattle.columns.proofs.Texts.{lines-next, lines-end}
 use Rattle.rules.specs.declared.Book.{Book}
 use Rattle.book.specs.declared.Step.{Step}
 use Rattle.book.specs.Calls.{freshBook}
-use Rattle.ledger.specs.Plain.{Reading, freshReading, standing}
+use Rattle.ledger.specs.Plain.{Reading, freshReading, plainState}
 use Rattle.ledger.specs.Entries.{Entry, entryRefusal, entryNext, entryStep}
 use Rattle.ledger.proofs.Whole.{Kept, fresh-kept}
 use Rattle.ledger.proofs.Again.{bookOf, fresh-holds}
@@ -43,7 +43,7 @@ over-long : (xs ys : List ℤ) → length xs ≤ length ys → length (over xs y
 over-long xs ys h = simp (length-append, length-drop) (omega arith)
 
 -- the arrays of a book that holds a reading have their places
-whole : (r : Reading) → Kept (standing r) → Whole (bookOf r .sections)
+whole : (r : Reading) → Kept (plainState r) → Whole (bookOf r .sections)
 unfolding holding
 whole r k =
     record {
@@ -53,8 +53,8 @@ whole r k =
       discrepancies = long (λ (x : Section). x .discrepancy);
     }
   where
-    long : (f : Section → ℤ) → length (over (map f (standing r .sections)) (replicate 64 (pos 0))) ≡ 64
-    long f = let ss = standing r .sections in over-long (map f ss) (replicate 64 (pos 0)) (omega (arith, length-map ss f, k .few))
+    long : (f : Section → ℤ) → length (over (map f (plainState r .sections)) (replicate 64 (pos 0))) ≡ 64
+    long f = let ss = plainState r .sections in over-long (map f ss) (replicate 64 (pos 0)) (omega (arith, length-map ss f, k .few))
 
 module _ (t : List ℕ) where
   -- the lines that are left after the heading and n others
@@ -72,7 +72,7 @@ module _ (t : List ℕ) where
     pub line : k ≡ suc (suc (length numbers))
     pub holds : b ≡ bookOf reading
     pub filled-in : places ≡ filled 0 778 (0 ∷ 0 ∷ numbers)
-    pub kept : Kept (standing reading)
+    pub kept : Kept (plainState reading)
     pub goes-on : leaves reading numbers ≡ afterHeading (left 0)
 
   pub reached-first : {b : Book} → b ≡ freshBook → Reached b (filled 0 778 []) 2

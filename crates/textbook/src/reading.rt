@@ -1,7 +1,7 @@
 // A text read line by line into a book and the refusals of its lines, which are written where they are.
 ghost use mathlib.Core.Path.{_≡_};
 ghost use lib.ListN.{length, set};
-ghost use Rattle.rules.specs.Standing.{bookIn};
+ghost use Rattle.rules.specs.LineState.{bookIn};
 ghost use Rattle.columns.specs.Texts.{lines};
 ghost use Rattle.ledger.specs.Entries.{entryStep};
 ghost use Rattle.textbook.specs.Text.{lineEntry};

@@ -11,7 +11,7 @@ use Rattle.adjust.specs.Sections.{sectionsOf, holding, unnumbered}
 use Rattle.adjust.specs.Line.{closing}
 use Rattle.rules.specs.declared.Line.{Line}
 use Rattle.rules.specs.declared.Book.{Book}
-use Rattle.rules.specs.Standing.{Standing, standingOf, isEmpty}
+use Rattle.rules.specs.LineState.{LineState, stateOf, isEmpty}
 use Rattle.rules.specs.Rules.{Call, bookRefusal, taken}
 use Rattle.book.specs.declared.Change.{Change}
 use Rattle.book.specs.declared.Step.{Step}
@@ -33,7 +33,7 @@ lineChange n l next = cond (eqb n 0) (lineOnly 0 next) (lineOnly n l)
 -- what a call that is taken changes, told by the rules of the line beside no sections: a section that it finishes is then the only one
 unfoldable pub effectOf : Line → Call → Change
 effectOf l c =
-    let v : Standing = taken (record { line = l; sections = [] }) c in
+    let v : LineState = taken (record { line = l; sections = [] }) c in
     record { number = 0; line = v .line; finishes = not (isEmpty (v .sections)); section = getD (v .sections) 0 noSection }
 
 -- and a call that is answered with n: one that is refused changes nothing
@@ -41,7 +41,7 @@ abbrev pub changeBy : ℕ → Line → Call → Change
 changeBy n l c = cond (eqb n 0) (effectOf l c) (lineOnly n l)
 
 abbrev pub changeOf : Book → Call → Change
-changeOf b c = changeBy (bookRefusal (standingOf b) c) (b .line) c
+changeOf b c = changeBy (bookRefusal (stateOf b) c) (b .line) c
 
 -- whether a change finishes a section for which there is a place beside count others
 abbrev pub stores : Change → ℕ → Bool

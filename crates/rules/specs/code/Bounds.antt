@@ -4,7 +4,7 @@ use lib.IntN.{natAbs}
 use Rattle.rules.specs.declared.Run.{Run}
 use Rattle.rules.specs.declared.Waiting.{Waiting}
 use Rattle.rules.specs.declared.Waiting.the-variants.{Nothing, Outward}
-use Rattle.rules.specs.Standing.{mostG, mostS, mostDifference}
+use Rattle.rules.specs.LineState.{mostG, mostS, mostDifference}
 
 pub record SmallRun (u : Run) : Type 0 where
   pub count : u .count ≤ 200

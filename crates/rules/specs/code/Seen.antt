@@ -9,17 +9,17 @@ use Rattle.adjust.specs.declared.Sections.{Sections}
 use Rattle.adjust.specs.Sections.{sectionsOf}
 use Rattle.rules.specs.declared.Line.{Line}
 use Rattle.rules.specs.declared.state.Seen.{Seen}
-use Rattle.rules.specs.Standing.{Standing, lineBroken}
+use Rattle.rules.specs.LineState.{LineState, lineBroken}
 
 -- the first count sections by their numbers alone
 abbrev pub numbered : ℕ → List ℤ → Sections
 numbered count ns = record { count = count; numbers = ns; heights = []; distances = []; discrepancies = [] }
 
 -- a line beside the first count sections with these numbers, and beside count sections of which nothing else matters
-abbrev pub numbersIn : Line → ℕ → List ℤ → Standing
+abbrev pub numbersIn : Line → ℕ → List ℤ → LineState
 numbersIn l count ns = record { line = l; sections = sectionsOf (numbered count ns) }
 
-abbrev pub beside : Line → ℕ → Standing
+abbrev pub beside : Line → ℕ → LineState
 beside l count = numbersIn l count []
 
 abbrev pub isAmong : ℕ → List ℤ → ℤ → Bool

@@ -9,7 +9,7 @@ use native.Mathlib.Omega.{arith}
 use lib.ListN.{length, set, drop, length-drop}
 use lib.Seq.{take-all, sets, length-sets}
 use Rattle.book.specs.declared.Step.{Step}
-use Rattle.ledger.specs.Plain.{Reading, freshReading, standing}
+use Rattle.ledger.specs.Plain.{Reading, freshReading, plainState}
 use Rattle.ledger.specs.Entries.{Entry, entryRefusal, entryNext, entryStep, entryRefusals, afterEntries}
 use Rattle.ledger.proofs.Whole.{Kept, fresh-kept}
 use Rattle.ledger.proofs.Again.{bookOf, fresh-holds}
@@ -22,7 +22,7 @@ use Rattle.runner.proofs.run_calls.Tie as tie
 abbrev Inv-loop : tie.InvT-loop
 Inv-loop calls numbers₀ n b₀ k₀ numbers b k =
     (k ≤ n)
-    × ((r : Reading) × Kept (standing r) × (b ≡ bookOf r)
+    × ((r : Reading) × Kept (plainState r) × (b ≡ bookOf r)
     × (afterEntries r (left n k calls) ≡ afterEntries freshReading (entriesOf calls))
     × (sets numbers k (entryRefusals r (left n k calls)) ≡ sets numbers₀ 0 (entryRefusals freshReading (entriesOf calls))))
 

@@ -7,9 +7,9 @@ use Rattle.numbers.specs.Whole.{filled}
 use Rattle.columns.specs.Decimals.{same}
 use Rattle.columns.specs.Lines.{heading}
 use Rattle.columns.specs.Texts.{lines}
-use Rattle.rules.specs.Standing.{bookWith}
+use Rattle.rules.specs.LineState.{bookWith}
 use Rattle.book.specs.Calls.{freshBook}
-use Rattle.ledger.specs.Plain.{Reading, freshReading, standing}
+use Rattle.ledger.specs.Plain.{Reading, freshReading, plainState}
 use Rattle.textbook.specs.declared.reader.TextRead.{TextRead}
 use Rattle.textbook.specs.declared.reading.State.{State}
 use Rattle.textbook.specs.Text.{tooLong, lineRefusals, readingAfter}
@@ -32,7 +32,7 @@ lineCount n = (n + 83) / 84
 
 -- the book holds the reading r, and the lines after the heading have the refusal numbers ns, which all have a place where the text is not too long
 abbrev pub read : Reading → List ℕ → State
-read r ns = record { book = bookWith freshBook (standing r); refusals = filled 0 778 (0 ∷ 0 ∷ ns) }
+read r ns = record { book = bookWith freshBook (plainState r); refusals = filled 0 778 (0 ∷ 0 ∷ ns) }
 
 -- what the lines after the heading leave
 abbrev pub afterHeading : List (List ℕ) → State

@@ -1,6 +1,6 @@
 -- `close_change` meets its contract, by its refusal and its effect.
 use mathlib.Core.Path.{ap}
-use Rattle.rules.specs.Standing.{standingIn}
+use Rattle.rules.specs.LineState.{stateIn}
 use Rattle.book.specs.code.Changes.{lineOnly, effectOf}
 use Rattle.book.proofs.Joined.{close-as, change-made}
 use borrow.Author.Needs.{needs}
@@ -23,7 +23,7 @@ returns c =
     let r = d .before in
     let s = r .before in
     let a = s .args in
-    let held = standingIn (a .line) (a .count) (a .numbers .now) (a .heights .now) (a .distances .now) (a .discrepancies .now) in
+    let held = stateIn (a .line) (a .count) (a .numbers .now) (a .heights .now) (a .distances .now) (a .discrepancies .now) in
     change-made held (a .line) (close-as (s .fits .number) (s .fits .end)) (r .close-refusal .ensures) (ap (lineOnly 0) (d .closed .ensures)) (c .line-change .ensures)
 
 pub close-change-spec : {M : Type 1} → statement M

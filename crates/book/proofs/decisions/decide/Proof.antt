@@ -5,7 +5,7 @@ use mir.Syntax.{w64}
 use mir.Val.{SFits}
 use Rattle.records.specs.declared.Tag.{Tag}
 use Rattle.rules.specs.declared.Book.{Book}
-use Rattle.rules.specs.Standing.{standingOf, bookIn}
+use Rattle.rules.specs.LineState.{stateOf, bookIn}
 use Rattle.rules.specs.Rules.{Call, bookRefusal}
 use Rattle.rules.specs.Records.{argument, callOf}
 use Rattle.rules.proofs.Looked.{collimation-alike, open-alike, spur-alike, station-alike, drop-alike, end-alike}
@@ -21,7 +21,7 @@ abbrev book : tie.Start → Book
 book s = bookIn (s .args .line) (s .args .count) (s .args .numbers .now) (s .args .heights .now) (s .args .distances .now) (s .args .discrepancies .now)
 
 -- a call's change by the number that the lent lists give, which is the book's, under the record's tag
-told : (s : tie.Start) {t : Tag} → s .args .tag ≡ t → {c : Call} → c ≡ callOf t (s .args .t8) → {n : ℕ} → n ≡ bookRefusal (standingOf (book s)) c
+told : (s : tie.Start) {t : Tag} → s .args .tag ≡ t → {c : Call} → c ≡ callOf t (s .args .t8) → {n : ℕ} → n ≡ bookRefusal (stateOf (book s)) c
     → {x : Change} → x ≡ changeBy n (s .args .line) c → x ≡ changeOf (book s) (callOf (s .args .tag) (s .args .t8))
 told s e {c} same n m = m ∙ (λ i. changeBy (n i) (s .args .line) c) ∙ ap (changeOf (book s)) (same ∙ ap (λ (t : Tag). callOf t (s .args .t8)) (sym e))
 

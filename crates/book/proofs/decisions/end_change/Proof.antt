@@ -1,7 +1,7 @@
 -- `end_change` meets its contract, by its refusal and its effect.
 use mathlib.Core.Path.{_≡_, sym, ap, _∙_}
 use Rattle.numbers.proofs.Machine.{stored}
-use Rattle.rules.specs.Standing.{Standing}
+use Rattle.rules.specs.LineState.{LineState}
 use Rattle.rules.specs.Rules.{end-run}
 use Rattle.rules.specs.code.Seen.{numbersIn, numbered}
 use Rattle.rules.proofs.Tables.{line-whole}
@@ -19,7 +19,7 @@ line-only-requires : tie.Need-line-only-requires
 line-only-requires c κs = search needs
 
 -- the line and the numbers of its sections
-abbrev held : tie.Start → Standing
+abbrev held : tie.Start → LineState
 held s = numbersIn (s .args .line) (s .args .count) (s .args .numbers .now)
 
 returns : tie.Need-returns

@@ -8,7 +8,7 @@ use Rattle.station.specs.code.Bounds.{Small}
 use Rattle.station.specs.Station.{stationOf, figuresOf, readingRefusal, Reads}
 use Rattle.station.proofs.Answered.{of-station, of-refused}
 use Rattle.station.proofs.Sizes.{read, figures-small}
-use Rattle.rules.specs.Standing.{Standing, withStation}
+use Rattle.rules.specs.LineState.{LineState, withStation}
 use Rattle.rules.specs.code.Seen.{numbered, numbersIn}
 use Rattle.rules.specs.Rules.{Call, station, bookStationTests, bookRefusal, withRuns}
 use Rattle.rules.proofs.Tables.{line-whole}
@@ -43,7 +43,7 @@ line-only-requires-3 : tie.Need-line-only-requires-3
 line-only-requires-3 c κs = search needs
 
 -- the line and the numbers of its sections
-abbrev held : tie.Start → Standing
+abbrev held : tie.Start → LineState
 held s = numbersIn (s .args .line) (s .args .count) (s .args .numbers .now)
 
 -- the call as it is read back

@@ -3,7 +3,7 @@ use Prim.Native.Nat.{_+_}
 use lib.IntN.{_+ℤ_, _-ℤ_}
 use Rattle.numbers.proofs.Machine.{stored, stored-id}
 use Rattle.numbers.proofs.Chain.{Value, known, add, sub, fits, kept}
-use Rattle.rules.specs.Standing.{mostG, mostS}
+use Rattle.rules.specs.LineState.{mostG, mostS}
 use Rattle.book.proofs.effects.both_ways.Statement.{statement}
 use Rattle.book.proofs.effects.both_ways.Tie as tie
 

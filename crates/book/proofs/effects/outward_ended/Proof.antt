@@ -6,7 +6,7 @@ use Rattle.numbers.proofs.Machine.{stored-id}
 use Rattle.adjust.specs.declared.terms.Terms.{Terms}
 use Rattle.adjust.specs.Terms.{termsOf}
 use Rattle.rules.specs.declared.Waiting.the-variants.{Nothing, Outward}
-use Rattle.rules.specs.Standing.{noRun, oneWay}
+use Rattle.rules.specs.LineState.{noRun, oneWay}
 use Rattle.rules.specs.Rules.{withRuns}
 use Rattle.book.specs.code.Changes.{lineOnly}
 use Rattle.book.proofs.Joined.{as-effect}

@@ -8,7 +8,7 @@ use Rattle.numbers.proofs.Machine.{stored-id}
 use Rattle.rules.specs.declared.Waiting.{Waiting}
 use Rattle.rules.specs.declared.Waiting.the-variants.{Nothing}
 use Rattle.rules.specs.code.Bounds.{SmallRuns}
-use Rattle.rules.specs.Standing.{noRun, bothWays}
+use Rattle.rules.specs.LineState.{noRun, bothWays}
 use Rattle.rules.specs.Rules.{end-run, withRuns}
 use Rattle.book.specs.code.Changes.{effectOf}
 use Rattle.book.proofs.Joined.{as-effect}

@@ -7,7 +7,7 @@ use Rattle.numbers.proofs.Chain.{Value, known, add, fits, kept}
 use Rattle.station.specs.declared.Figures.{Figures}
 use Rattle.rules.specs.declared.Run.{Run}
 use Rattle.rules.specs.Rules.{withRuns}
-use Rattle.rules.specs.Standing.{mostG, mostS, mostDifference}
+use Rattle.rules.specs.LineState.{mostG, mostS, mostDifference}
 use borrow.Author.Needs.{needs}
 use Rattle.book.proofs.effects.with_station.Statement.{statement}
 use Rattle.book.proofs.effects.with_station.Tie as tie

@@ -9,7 +9,7 @@ use Rattle.numbers.proofs.Tables.{failed}
 use Rattle.adjust.specs.Sections.{heightInRange}
 use Rattle.adjust.proofs.Lent.{misfit-lent}
 use Rattle.rules.specs.declared.Book.{Book}
-use Rattle.rules.specs.Standing.{standingOf, bookIn}
+use Rattle.rules.specs.LineState.{stateOf, bookIn}
 use Rattle.rules.specs.Rules.{Call, close-line, broken, inputTests, stateTests}
 use Rattle.rules.proofs.Parts.{input-refused, broken-refused, state-refused}
 use Rattle.rules.proofs.Looked.{counted-broken, shut-alike, saw-broken, saw-shut}
@@ -39,7 +39,7 @@ taken c = sym (number (c .before)) ∙ c .if1 .left
 returns : tie.Need-returns
 returns c =
     let s = c .before .before in
-    input-refused (standingOf (book s)) (call s) (c .before .close-input .result) (number (c .before)) (c .if1 .taken)
+    input-refused (stateOf (book s)) (call s) (c .before .close-input .result) (number (c .before)) (c .if1 .taken)
 
 misfits-requires : tie.Need-misfits-requires
 misfits-requires c κs = search needs
@@ -49,7 +49,7 @@ look-requires c κs = search needs
 
 -- 20, as the two tests told it
 tested : (d : tie.After-struct-known) {t : Bool} → d .before .before .misfits .result || d .before .look .result .broken ≡ t
-    → broken (standingOf (book (d .before .before .before .before .before))) (call (d .before .before .before .before .before)) ≡ t
+    → broken (stateOf (book (d .before .before .before .before .before))) (call (d .before .before .before .before .before)) ≡ t
 tested d e =
     let k = d .before in
     let m = k .before in
@@ -63,7 +63,7 @@ returns-2 c =
     let d = c .before in
     let e = d .before .before .before in
     let s = e .before .before in
-    broken-refused (standingOf (book s)) (call s) (taken e) (tested d (c .if2 .taken))
+    broken-refused (stateOf (book s)) (call s) (taken e) (tested d (c .if2 .taken))
 
 close-state-requires : tie.Need-close-state-requires
 close-state-requires c κs =
@@ -73,7 +73,7 @@ close-state-requires c κs =
     let s = e .before .before in
     let b = book s in
     let whole = or-r (k .before .misfits .result) (k .look .result .broken) (c .if2 .left) in (
-      (ap (λ (z : ℤ). broken (standingOf b) (close-line (stored (s .args .number)) z)) (stored-id (s .fits .end)) ∙ tested d (c .if2 .left), saw-shut (b .line) (b .sections .count) (b .sections .numbers) (k .look .ensures) whole ∙ shut-alike b),
+      (ap (λ (z : ℤ). broken (stateOf b) (close-line (stored (s .args .number)) z)) (stored-id (s .fits .end)) ∙ tested d (c .if2 .left), saw-shut (b .line) (b .sections .count) (b .sections .numbers) (k .look .ensures) whole ∙ shut-alike b),
       ap heightInRange (stored-id (s .fits .end)) ∙ not-false (heightInRange (s .args .end)) (failed (inputTests (call s)) refl (taken e) 5),
     )
 
@@ -83,8 +83,8 @@ returns-3 c =
     let d = l .before in
     let e = d .before .before .before in
     let s = e .before .before in
-    state-refused (standingOf (book s)) (call s) (c .close-state .result) (taken e) (tested d (l .if2 .left))
-    (c .close-state .ensures ∙ stored-both (λ n h. firstOf (stateTests (standingOf (book s)) (close-line n h))) (s .fits .number) (s .fits .end))
+    state-refused (stateOf (book s)) (call s) (c .close-state .result) (taken e) (tested d (l .if2 .left))
+    (c .close-state .ensures ∙ stored-both (λ n h. firstOf (stateTests (stateOf (book s)) (close-line n h))) (s .fits .number) (s .fits .end))
 
 pub close-refusal-spec : {M : Type 1} → statement M
 close-refusal-spec =

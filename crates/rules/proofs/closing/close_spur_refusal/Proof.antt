@@ -8,7 +8,7 @@ use Rattle.numbers.proofs.Tests.{or-r}
 use Rattle.adjust.specs.Terms.{termsOf}
 use Rattle.adjust.proofs.Lent.{misfit-lent}
 use Rattle.rules.specs.declared.Book.{Book}
-use Rattle.rules.specs.Standing.{standingOf, bookIn}
+use Rattle.rules.specs.LineState.{stateOf, bookIn}
 use Rattle.rules.specs.code.Seen.{numbersIn}
 use Rattle.rules.specs.Rules.{Call, close-spur, closeTests, numberInRange, broken, inputTests}
 use Rattle.rules.proofs.Parts.{input-refused, broken-refused, state-refused}
@@ -38,7 +38,7 @@ returns : tie.Need-returns
 returns c =
     let k = c .before in
     let s = k .before in
-    input-refused (standingOf (book s)) (call s) 4 (sym (number k (c .if1 .taken))) (λ z. absurd (omega arith))
+    input-refused (stateOf (book s)) (call s) 4 (sym (number k (c .if1 .taken))) (λ z. absurd (omega arith))
 
 misfits-requires : tie.Need-misfits-requires
 misfits-requires c κs = search needs
@@ -48,7 +48,7 @@ line-broken-requires c κs = search needs
 
 -- 20, as the two tests told it
 tested : (k : tie.After-line-broken) {t : Bool} → k .before .misfits .result || k .line-broken .result ≡ t
-    → broken (standingOf (book (k .before .before .before .before))) (call (k .before .before .before .before)) ≡ t
+    → broken (stateOf (book (k .before .before .before .before))) (call (k .before .before .before .before)) ≡ t
 tested k e =
     let m = k .before in
     let b = book (m .before .before .before) in
@@ -59,7 +59,7 @@ returns-2 c =
     let k = c .before in
     let e = k .before .before in
     let s = e .before .before in
-    broken-refused (standingOf (book s)) (call s) (number (e .before) (e .if1 .left)) (tested k (c .if2 .taken))
+    broken-refused (stateOf (book s)) (call s) (number (e .before) (e .if1 .left)) (tested k (c .if2 .taken))
 
 terms-of-requires : tie.Need-terms-of-requires
 terms-of-requires c κs = search needs
@@ -80,7 +80,7 @@ returns-3 c =
     let e = k .before .before in
     let s = e .before .before in
     let seen = numbersIn (s .args .line) (s .args .count) (s .args .numbers .now) in
-    state-refused (standingOf (book s)) (call s) (c .closing-state .result) (number (e .before) (e .if1 .left)) (tested k (l .if2 .left))
+    state-refused (stateOf (book s)) (call s) (c .closing-state .result) (number (e .before) (e .if1 .left)) (tested k (l .if2 .left))
     (c .closing-state .ensures ∙ (λ i. firstOf (closeTests seen (t .terms-of .ensures i .tied) (stored-id (s .fits .number) i) false)) ∙ ap firstOf (close-alike (book s) (termsOf (s .args .line .opening .class) .tied) (s .args .number) false))
 
 pub close-spur-refusal-spec : {M : Type 1} → statement M

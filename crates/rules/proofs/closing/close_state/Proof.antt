@@ -18,7 +18,7 @@ use Rattle.adjust.specs.Sections.{sectionsOf, misfit}
 use Rattle.adjust.specs.Terms.{termsOf}
 use Rattle.adjust.specs.Frames.{figuresFit}
 use Rattle.rules.specs.declared.Book.{Book}
-use Rattle.rules.specs.Standing.{Standing, standingOf, bookIn, isReturn, isEmpty, isShut, lineBroken}
+use Rattle.rules.specs.LineState.{LineState, stateOf, bookIn, isReturn, isEmpty, isShut, lineBroken}
 use Rattle.rules.specs.code.Seen.{numbersIn}
 use Rattle.rules.specs.Rules.{close-line, closeTests, lineTests, stateTests}
 use Rattle.rules.proofs.Unbroken.{Unbroken, unbroken, some-long}
@@ -34,7 +34,7 @@ book s = bookIn (s .args .line) (s .args .count) (s .args .numbers .now) (s .arg
 -- the tests up to 34
 abbrev early : tie.Start → List (ℕ × Bool)
 early s =
-    let v : Standing = standingOf (book s) in
+    let v : LineState = stateOf (book s) in
     closeTests v (not (termsOf (s .args .line .opening .class) .tied)) (s .args .number) (isShut v && not (eqZ (s .args .end) (s .args .line .opening .start .height)))
 
 -- its sections are in range, and its line is unbroken
@@ -67,20 +67,20 @@ number m =
     m .closing-state .ensures
     ∙ (λ i. firstOf (closeTests seen (not (t .terms-of .ensures i .tied)) (stored-id (s .fits .number) i) (s .pre .0 .1 i && not (eq-as (s .fits .end) (height-fits s) i))))
     ∙ ap firstOf (close-alike (book s) (not (termsOf (s .args .line .opening .class) .tied)) (s .args .number)
-    (isShut (standingOf (book s)) && not (eqZ (s .args .end) (s .args .line .opening .start .height))))
+    (isShut (stateOf (book s)) && not (eqZ (s .args .end) (s .args .line .opening .start .height))))
 
 -- the number of all tests, by that of the early ones
 by-early : (s : tie.Start) {n : ℕ} → n ≡ firstOf (early s)
-    → firstOf (stateTests (standingOf (book s)) (close-line (s .args .number) (s .args .end))) ≡ cond (eqb n 0) (firstOf (lineTests (standingOf (book s)) (s .args .end))) n
+    → firstOf (stateTests (stateOf (book s)) (close-line (s .args .number) (s .args .end))) ≡ cond (eqb n 0) (firstOf (lineTests (stateOf (book s)) (s .args .end))) n
 by-early s e =
-    let later = lineTests (standingOf (book s)) (s .args .end) in
+    let later = lineTests (stateOf (book s)) (s .args .end) in
     first-append (early s) later refl ∙ (λ i. cond (eqb (sym e i) 0) (firstOf later) (sym e i))
 
 returns : tie.Need-returns
 returns c =
     let m = c .before in
     let s = start m in
-    sym (by-early s (number m) ∙ nonzero-cond (m .closing-state .result) (firstOf (lineTests (standingOf (book s)) (s .args .end))) (m .closing-state .result) (c .if1 .taken))
+    sym (by-early s (number m) ∙ nonzero-cond (m .closing-state .result) (firstOf (lineTests (stateOf (book s)) (s .args .end))) (m .closing-state .result) (c .if1 .taken))
 
 -- where the early tests fail, the figures fit
 fit : (s : tie.Start) → firstOf (early s) ≡ 0 → figuresFit (s .args .line .opening .start .height) (s .args .end) (sectionsOf (book s .sections)) ≡ true
@@ -105,8 +105,8 @@ returns-2 c =
     let m = e .before in
     let s = start m in
     c .line-refusal .ensures
-    ∙ ap (λ (z : ℤ). firstOf (lineTests (standingOf (book s)) z)) (stored-id (s .fits .end))
-    ∙ sym (by-early s (number m) ∙ zero-cond (m .closing-state .result) (firstOf (lineTests (standingOf (book s)) (s .args .end))) (m .closing-state .result) (e .if1 .left))
+    ∙ ap (λ (z : ℤ). firstOf (lineTests (stateOf (book s)) z)) (stored-id (s .fits .end))
+    ∙ sym (by-early s (number m) ∙ zero-cond (m .closing-state .result) (firstOf (lineTests (stateOf (book s)) (s .args .end))) (m .closing-state .result) (e .if1 .left))
 
 pub close-state-spec : {M : Type 1} → statement M
 close-state-spec = tie.close (tie.spec terms-of-requires closing-state-requires returns line-refusal-requires returns-2)

@@ -5,7 +5,7 @@ use native.Mathlib.Omega.{arith}
 use lib.IntN.{ℤ}
 use Rattle.numbers.specs.Tables.{firstOf}
 use Rattle.numbers.proofs.Machine.{stored-id}
-use Rattle.rules.specs.Standing.{Standing, lineBroken}
+use Rattle.rules.specs.LineState.{LineState, lineBroken}
 use Rattle.rules.specs.code.Seen.{numbered, numbersIn}
 use Rattle.rules.specs.Rules.{end-run, numberInRange, inputTests, stateTests}
 use Rattle.rules.proofs.Parts.{input-refused, broken-refused, state-refused}
@@ -16,7 +16,7 @@ use Rattle.rules.proofs.refusals.end_refusal.Statement.{statement}
 use Rattle.rules.proofs.refusals.end_refusal.Tie as tie
 
 -- the line and the numbers of its sections
-abbrev held : tie.Start → Standing
+abbrev held : tie.Start → LineState
 held s = numbersIn (s .args .line) (s .args .count) (s .args .numbers .now)
 
 number-in-range-requires : tie.Need-number-in-range-requires

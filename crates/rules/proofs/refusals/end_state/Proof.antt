@@ -5,7 +5,7 @@ use Prim.Native.Nat.{_%_}
 use lib.Dec.{leb, eqb}
 use Rattle.numbers.proofs.Machine.{stored-id}
 use Rattle.adjust.proofs.Lists.{from-length}
-use Rattle.rules.specs.Standing.{outwardOrReturn, bothWays}
+use Rattle.rules.specs.LineState.{outwardOrReturn, bothWays}
 use Rattle.rules.specs.code.Seen.{numbered, numbersIn}
 use Rattle.rules.specs.Rules.{numberAllowed, discrepancyWithin}
 use borrow.Author.Needs.{needs}

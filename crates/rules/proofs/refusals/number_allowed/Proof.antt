@@ -12,7 +12,7 @@ use Rattle.adjust.specs.declared.Section.{Section}
 use Rattle.adjust.specs.Sections.{sectionsOf}
 use Rattle.adjust.specs.Terms.{termsOf}
 use Rattle.rules.specs.declared.Book.{Book}
-use Rattle.rules.specs.Standing.{standingOf, bookIn, isReturn, began, onLine, isEmpty}
+use Rattle.rules.specs.LineState.{stateOf, bookIn, isReturn, began, onLine, isEmpty}
 use Rattle.rules.specs.Rules.{numberAllowed}
 use Rattle.rules.proofs.Unbroken.{empty-count}
 use borrow.Author.Needs.{needs}
@@ -33,12 +33,12 @@ start-fits : (s : tie.Start) → SFits w64 (s .args .line .opening .start .numbe
 start-fits s = search needs
 
 allowed : (s : tie.Start) (t : Bool) → isReturn (s .args .line .waiting) ≡ t
-    → numberAllowed (standingOf (book s)) (s .args .number)
-    ≡ cond t (eqZ (s .args .number) (began (standingOf (book s))))
-    (not (onLine (standingOf (book s)) (s .args .number)) && not (eqZ (s .args .number) (s .args .line .opening .start .number) && (isEmpty (sectionsOf (book s .sections)) || not (termsOf (s .args .line .opening .class) .tied))))
+    → numberAllowed (stateOf (book s)) (s .args .number)
+    ≡ cond t (eqZ (s .args .number) (began (stateOf (book s))))
+    (not (onLine (stateOf (book s)) (s .args .number)) && not (eqZ (s .args .number) (s .args .line .opening .start .number) && (isEmpty (sectionsOf (book s .sections)) || not (termsOf (s .args .line .opening .class) .tied))))
 allowed s t e =
-    ap (λ (b : Bool). cond b (eqZ (s .args .number) (began (standingOf (book s))))
-    (not (onLine (standingOf (book s)) (s .args .number)) && not (eqZ (s .args .number) (s .args .line .opening .start .number) && (isEmpty (sectionsOf (book s .sections)) || not (termsOf (s .args .line .opening .class) .tied))))) e
+    ap (λ (b : Bool). cond b (eqZ (s .args .number) (began (stateOf (book s))))
+    (not (onLine (stateOf (book s)) (s .args .number)) && not (eqZ (s .args .number) (s .args .line .opening .start .number) && (isEmpty (sectionsOf (book s .sections)) || not (termsOf (s .args .line .opening .class) .tied))))) e
 
 returns : tie.Need-returns
 returns c =
@@ -61,7 +61,7 @@ returns-2 c =
     let e = t .before .before in
     let r = e .before in
     let s = r .before .before in
-    let on = o .on-line .ensures ∙ ap (onLine (standingOf (book s))) (stored-id (s .fits .number)) in
+    let on = o .on-line .ensures ∙ ap (onLine (stateOf (book s))) (stored-id (s .fits .number)) in
     (λ i. not (on i) && not (eq-as (s .fits .number) (start-fits s) i && (sym (empty-count (book s .sections)) i || not (t .terms-of .ensures i .tied))))
     ∙ sym (allowed s false (sym (r .is-return .ensures) ∙ e .if1 .left))
 

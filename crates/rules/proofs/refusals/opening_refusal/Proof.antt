@@ -5,7 +5,7 @@ use mathlib.Core.List.{List, [], _∷_}
 use Prim.Native.Nat.{ℕ}
 use Rattle.numbers.specs.Tables.{firstOf}
 use Rattle.numbers.proofs.Machine.{stored-id}
-use Rattle.rules.specs.Standing.{isFresh}
+use Rattle.rules.specs.LineState.{isFresh}
 use Rattle.rules.specs.Rules.{openTests, brokenIn}
 use Rattle.rules.specs.code.Seen.{numbered, beside}
 use Rattle.rules.proofs.Parts.{first-input, first-broken, first-state}

@@ -9,7 +9,7 @@ use mir.Val.{SFits}
 use Rattle.numbers.specs.Whole.{eqZ}
 use Rattle.numbers.proofs.Equal.{eq-as}
 use Rattle.numbers.proofs.Machine.{stored-id}
-use Rattle.rules.specs.Standing.{outwardOrReturn}
+use Rattle.rules.specs.LineState.{outwardOrReturn}
 use Rattle.rules.specs.Rules.{outOfTurn}
 use borrow.Author.Needs.{needs}
 use Rattle.rules.proofs.refusals.out_of_turn.Statement.{statement}

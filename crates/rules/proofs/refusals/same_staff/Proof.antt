@@ -6,7 +6,7 @@ use mir.Val.{SFits}
 use Rattle.numbers.specs.Whole.{eqZ}
 use Rattle.numbers.proofs.Equal.{eq-as}
 use Rattle.rules.specs.declared.Waiting.{Waiting}
-use Rattle.rules.specs.Standing.{outwardOrReturn}
+use Rattle.rules.specs.LineState.{outwardOrReturn}
 use borrow.Author.Needs.{needs}
 use Rattle.rules.proofs.refusals.same_staff.Statement.{statement}
 use Rattle.rules.proofs.refusals.same_staff.Tie as tie

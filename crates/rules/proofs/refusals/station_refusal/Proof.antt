@@ -4,7 +4,7 @@ use mathlib.Core.Bool.{Bool, cond}
 use Prim.Native.Nat.{ℕ}
 use Rattle.numbers.specs.Tables.{firstOf}
 use Rattle.numbers.proofs.Machine.{stored-id}
-use Rattle.rules.specs.Standing.{isShut}
+use Rattle.rules.specs.LineState.{isShut}
 use Rattle.rules.specs.Rules.{stationTests, bookStationTests}
 use Rattle.rules.specs.code.Seen.{numbered, numbersIn}
 use Rattle.rules.proofs.Looked.{counted-broken, saw-broken, saw-shut}

@@ -11,7 +11,7 @@ use Rattle.roots.specs.Limit.{isWithin}
 use Rattle.rules.specs.declared.Run.{Run}
 use Rattle.rules.specs.declared.Waiting.{Waiting}
 use Rattle.rules.specs.code.Bounds.{SmallRun, SmallRuns}
-use Rattle.rules.specs.Standing.{outwardOrReturn, bothWays, mostG, mostS}
+use Rattle.rules.specs.LineState.{outwardOrReturn, bothWays, mostG, mostS}
 use Rattle.rules.specs.Rules.{countedLength, discrepancyWithin}
 use borrow.Author.Needs.{needs}
 use Rattle.rules.proofs.refusals.too_far.Statement.{statement}

@@ -9,7 +9,7 @@ use mir.Syntax.{w64}
 use mir.Val.{SFits}
 use Rattle.numbers.proofs.Machine.{stored-id}
 use Rattle.adjust.specs.Sections.{heightInRange}
-use Rattle.rules.specs.Standing.{lineBroken}
+use Rattle.rules.specs.LineState.{lineBroken}
 use borrow.Author.Needs.{needs}
 use Rattle.rules.proofs.state.line_broken.Statement.{statement}
 use Rattle.rules.proofs.state.line_broken.Tie as tie

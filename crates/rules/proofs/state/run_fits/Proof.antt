@@ -9,7 +9,7 @@ use mir.Syntax.{w64}
 use mir.Val.{SFits}
 use Rattle.numbers.specs.Whole.{within, between}
 use Rattle.numbers.proofs.Machine.{stored-id, cast-nat}
-use Rattle.rules.specs.Standing.{mostG, mostS, mostDifference}
+use Rattle.rules.specs.LineState.{mostG, mostS, mostDifference}
 use borrow.Author.Needs.{needs}
 use Rattle.rules.proofs.state.run_fits.Statement.{statement}
 use Rattle.rules.proofs.state.run_fits.Tie as tie

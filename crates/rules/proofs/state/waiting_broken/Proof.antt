@@ -3,7 +3,7 @@ use mathlib.Core.Path.{sym, ap, _∙_}
 use mathlib.Core.Bool.{not, _||_}
 use lib.Dec.{leb}
 use Rattle.rules.specs.declared.Waiting.{Waiting}
-use Rattle.rules.specs.Standing.{waitingBroken}
+use Rattle.rules.specs.LineState.{waitingBroken}
 use borrow.Author.Needs.{needs}
 use Rattle.rules.proofs.state.waiting_broken.Statement.{statement}
 use Rattle.rules.proofs.state.waiting_broken.Tie as tie

@@ -7,7 +7,7 @@ use lib.ListN.{length}
 use lib.IntN.{pos}
 use Rattle.numbers.specs.Whole.{filled}
 use Rattle.rules.specs.declared.Book.{Book}
-use Rattle.rules.specs.Standing.{bookIn}
+use Rattle.rules.specs.LineState.{bookIn}
 use Rattle.book.specs.Calls.{freshBook}
 use Rattle.ledger.specs.Entries.{entryStep}
 use Rattle.textbook.specs.Text.{lineEntry}

@@ -7,7 +7,7 @@ use Rattle.records.specs.declared.Kind.{Kind}
 use Rattle.columns.specs.declared.reader.TextLine.{TextLine}
 use Rattle.columns.specs.Records.{lineIn}
 use Rattle.rules.specs.declared.Book.{Book}
-use Rattle.rules.specs.Standing.{bookIn}
+use Rattle.rules.specs.LineState.{bookIn}
 use Rattle.book.proofs.Joined.{stored-sections, step-made}
 use Rattle.ledger.specs.Entries.{entryOf, entryStep}
 use Rattle.textbook.specs.Text.{lineEntry}

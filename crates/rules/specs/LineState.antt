@@ -1,4 +1,4 @@
--- What the rules look at: the counts and sums of the standing list. The plain reading computes them from its lists of stations, a book holds them.
+-- What the rules look at, the state of a line: the counts and sums of document 01's standing list. The plain reading computes them from its lists of stations, a book holds them.
 use mathlib.Core.Bool.{Bool, true, false, not, _&&_, _||_}
 use mathlib.Core.List.{List, [], _∷_, map}
 use Prim.Native.Nat.{ℕ, _+_}
@@ -18,23 +18,23 @@ use Rattle.rules.specs.declared.Line.{Line}
 use Rattle.rules.specs.declared.Book.{Book}
 
 -- the line, and its finished sections in order
-pub record Standing : Type 0 where
+pub record LineState : Type 0 where
   pub line : Line
   pub sections : List Section
 
 -- what a book holds, and the book b holding v in its place
-abbrev pub standingOf : Book → Standing
-standingOf b = record { line = b .line; sections = sectionsOf (b .sections) }
+abbrev pub stateOf : Book → LineState
+stateOf b = record { line = b .line; sections = sectionsOf (b .sections) }
 
 -- a line and the lists of its sections, which the code is lent one by one, as a book
 abbrev pub bookIn : Line → ℕ → List ℤ → List ℤ → List ℤ → List ℤ → Book
 bookIn l count ns hs ds es =
     record { line = l; sections = record { count = count; numbers = ns; heights = hs; distances = ds; discrepancies = es } }
 
-abbrev pub standingIn : Line → ℕ → List ℤ → List ℤ → List ℤ → List ℤ → Standing
-standingIn l count ns hs ds es = standingOf (bookIn l count ns hs ds es)
+abbrev pub stateIn : Line → ℕ → List ℤ → List ℤ → List ℤ → List ℤ → LineState
+stateIn l count ns hs ds es = stateOf (bookIn l count ns hs ds es)
 
-abbrev pub bookWith : Book → Standing → Book
+abbrev pub bookWith : Book → LineState → Book
 bookWith b v = record { line = v .line; sections = holding (b .sections) (v .sections) }
 
 -- ---- where the line stands
@@ -58,15 +58,15 @@ abbrev pub isEmpty : {A : Type 0} → List A → Bool
 isEmpty [] = true
 isEmpty (x ∷ xs) = false
 
-abbrev pub onLine : Standing → ℤ → Bool
+abbrev pub onLine : LineState → ℤ → Bool
 onLine v number = anyOf (λ (x : Section). eqZ (x .number) number) (v .sections)
 
 -- the loop is shut while a finished section carries the start number ('loop shut')
-abbrev pub isShut : Standing → Bool
+abbrev pub isShut : LineState → Bool
 isShut v = onLine v (v .line .opening .start .number)
 
 -- the benchmark where the present section began: the last one on the line
-abbrev pub began : Standing → ℤ
+abbrev pub began : LineState → ℤ
 began v = lastOf (v .line .opening .start .number) (map (λ (x : Section). x .number) (v .sections))
 
 -- the present run is a return where an outward run waits for one ('waiting'), and an outward run where none does: what is said of it in either case.
