@@ -18,7 +18,7 @@ use Rattle.adjust.proofs.Lists.{from-length}
 use Rattle.adjust.proofs.Lent.{any-alike}
 use Rattle.rules.specs.declared.Line.{Line}
 use Rattle.rules.specs.declared.Book.{Book}
-use Rattle.rules.specs.declared.state.Seen.{Seen}
+use Rattle.rules.specs.declared.broken.Seen.{Seen}
 use Rattle.rules.specs.LineState.{LineState, stateOf, isFresh, isOpen, isEmpty, isReturn, isShut, began, onLine, outwardOrReturn, bothWays, lineBroken}
 use Rattle.rules.specs.Rules.{open-line, station, end-run, drop-run, open-spur, collimation, openTests, closeTests, stateTests, discrepancyWithin, inputTests, stationTests, bookRefusal}
 use Rattle.rules.specs.code.Seen.{numbered, numbersIn, beside, isAmong, seenIn}

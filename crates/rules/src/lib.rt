@@ -2,9 +2,10 @@
 use adjust::Opening;
 use adjust::Sections;
 
+pub mod broken;
 pub mod closing;
+pub mod position;
 pub mod refusals;
-pub mod state;
 
 pub enum Stage {
     Fresh,

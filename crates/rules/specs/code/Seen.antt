@@ -8,7 +8,7 @@ use Rattle.adjust.specs.declared.Section.{Section}
 use Rattle.adjust.specs.declared.Sections.{Sections}
 use Rattle.adjust.specs.Sections.{sectionsOf}
 use Rattle.rules.specs.declared.Line.{Line}
-use Rattle.rules.specs.declared.state.Seen.{Seen}
+use Rattle.rules.specs.declared.broken.Seen.{Seen}
 use Rattle.rules.specs.LineState.{LineState, lineBroken}
 
 -- the first count sections by their numbers alone

@@ -10,8 +10,8 @@ use Rattle.numbers.proofs.Machine.{stored-id}
 use Rattle.rules.specs.code.Seen.{isAmong}
 use Rattle.rules.proofs.Unbroken.{unbroken}
 use Rattle.rules.proofs.Looked.{shown}
-use Rattle.rules.proofs.state.look.Statement.{statement}
-use Rattle.rules.proofs.state.look.Tie as tie
+use Rattle.rules.proofs.broken.look.Statement.{statement}
+use Rattle.rules.proofs.broken.look.Tie as tie
 
 line-broken-requires : tie.Need-line-broken-requires
 line-broken-requires c κs = search needs

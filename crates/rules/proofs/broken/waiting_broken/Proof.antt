@@ -5,8 +5,8 @@ use lib.Dec.{leb}
 use Rattle.rules.specs.declared.Waiting.{Waiting}
 use Rattle.rules.specs.LineState.{waitingBroken}
 use borrow.Author.Needs.{needs}
-use Rattle.rules.proofs.state.waiting_broken.Statement.{statement}
-use Rattle.rules.proofs.state.waiting_broken.Tie as tie
+use Rattle.rules.proofs.broken.waiting_broken.Statement.{statement}
+use Rattle.rules.proofs.broken.waiting_broken.Tie as tie
 
 enum-told : tie.Need-enum-told
 enum-told c = search needs

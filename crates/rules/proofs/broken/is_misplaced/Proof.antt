@@ -2,8 +2,8 @@
 use mathlib.Core.Bool.{not, _&&_, _||_}
 use lib.Dec.{eqb}
 use borrow.Author.Needs.{needs}
-use Rattle.rules.proofs.state.is_misplaced.Statement.{statement}
-use Rattle.rules.proofs.state.is_misplaced.Tie as tie
+use Rattle.rules.proofs.broken.is_misplaced.Statement.{statement}
+use Rattle.rules.proofs.broken.is_misplaced.Tie as tie
 
 terms-of-requires : tie.Need-terms-of-requires
 terms-of-requires c κs = search needs

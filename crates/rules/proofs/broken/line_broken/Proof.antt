@@ -11,8 +11,8 @@ use Rattle.numbers.proofs.Machine.{stored-id}
 use Rattle.adjust.specs.Sections.{heightInRange}
 use Rattle.rules.specs.LineState.{lineBroken}
 use borrow.Author.Needs.{needs}
-use Rattle.rules.proofs.state.line_broken.Statement.{statement}
-use Rattle.rules.proofs.state.line_broken.Tie as tie
+use Rattle.rules.proofs.broken.line_broken.Statement.{statement}
+use Rattle.rules.proofs.broken.line_broken.Tie as tie
 
 run-fits-requires : tie.Need-run-fits-requires
 run-fits-requires c κs = search needs

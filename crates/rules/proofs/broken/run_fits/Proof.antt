@@ -11,8 +11,8 @@ use Rattle.numbers.specs.Whole.{within, between}
 use Rattle.numbers.proofs.Machine.{stored-id, cast-nat}
 use Rattle.rules.specs.LineState.{mostG, mostS, mostDifference}
 use borrow.Author.Needs.{needs}
-use Rattle.rules.proofs.state.run_fits.Statement.{statement}
-use Rattle.rules.proofs.state.run_fits.Tie as tie
+use Rattle.rules.proofs.broken.run_fits.Statement.{statement}
+use Rattle.rules.proofs.broken.run_fits.Tie as tie
 
 returns : tie.Need-returns
 returns c =

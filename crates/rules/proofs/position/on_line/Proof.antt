@@ -19,8 +19,8 @@ use Rattle.adjust.specs.declared.Sections.{Sections}
 use Rattle.adjust.specs.Sections.{sectionsOf}
 use Rattle.rules.specs.code.Seen.{numbered, isAmong}
 use Rattle.adjust.proofs.Lists.{remaining, all-remain, next-remains, none-remain}
-use Rattle.rules.proofs.state.on_line.Statement.{statement}
-use Rattle.rules.proofs.state.on_line.Tie as tie
+use Rattle.rules.proofs.position.on_line.Statement.{statement}
+use Rattle.rules.proofs.position.on_line.Tie as tie
 
 abbrev among : ℤ → List Section → Bool
 among number ss = anyOf (λ (x : Section). eqZ (x .number) number) ss

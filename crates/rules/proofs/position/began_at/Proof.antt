@@ -15,8 +15,8 @@ use Rattle.adjust.specs.declared.Section.{Section}
 use Rattle.adjust.specs.declared.Sections.{Sections}
 use Rattle.adjust.specs.Sections.{sectionsFrom, sectionsOf}
 use Rattle.rules.specs.code.Seen.{numbered}
-use Rattle.rules.proofs.state.began_at.Statement.{statement}
-use Rattle.rules.proofs.state.began_at.Tie as tie
+use Rattle.rules.proofs.position.began_at.Statement.{statement}
+use Rattle.rules.proofs.position.began_at.Tie as tie
 
 abbrev numbers : List Section → List ℤ
 numbers ss = map (λ (x : Section). x .number) ss
