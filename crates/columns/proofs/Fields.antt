@@ -10,8 +10,8 @@ use lib.Signed.{_≤ℤ_, _<ℤ_}
 use lib.ListN.{length, length-append, length-replicate}
 use Rattle.numbers.proofs.Parts.{ints, posPart, negPart}
 use Rattle.numbers.proofs.Tests.{by-test, is-true}
-use Rattle.columns.specs.declared.reader.Field.{Field}
-use Rattle.columns.specs.declared.reader.Field.the-variants.{Number, Bad}
+use Rattle.columns.specs.declared.parser.Field.{Field}
+use Rattle.columns.specs.declared.parser.Field.the-variants.{Number, Bad}
 use Rattle.columns.specs.Decimals.{blanks, digits, decimal, fitsIn, pad, same, valueOf, hasMinus, candidate, fieldOf}
 use Rattle.columns.specs.code.Parser.{isDigit, allDigits}
 use Rattle.columns.proofs.Lists.{left-next, left-none}

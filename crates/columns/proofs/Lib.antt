@@ -4,7 +4,7 @@ pub mod Compare
 pub mod Digits
 pub mod Put
 pub mod Fields
-pub mod Parser
+pub mod FieldParts
 pub mod Runs
 pub mod Lines
 pub mod Records

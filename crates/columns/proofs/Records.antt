@@ -11,12 +11,12 @@ use lib.Seq.{drop-drop}
 use Rattle.numbers.specs.Tables.{firstOf, Lowest}
 use Rattle.numbers.proofs.Tables.{first-lowest}
 use Rattle.numbers.proofs.Tests.{by-test}
-use Rattle.columns.specs.declared.reader.Field.{Field}
-use Rattle.columns.specs.declared.reader.Field.the-variants.{Number, Bad}
+use Rattle.columns.specs.declared.parser.Field.{Field}
+use Rattle.columns.specs.declared.parser.Field.the-variants.{Number, Bad}
 use Rattle.records.specs.declared.Tag.{Tag}
 use Rattle.records.specs.declared.Kind.{Kind}
 use Rattle.records.specs.declared.Kind.the-variants.{Record, Refused}
-use Rattle.columns.specs.declared.reader.TextLine.{TextLine}
+use Rattle.columns.specs.declared.parser.TextLine.{TextLine}
 use Rattle.columns.specs.Decimals.{same, fieldOf}
 use Rattle.columns.specs.Lines.{lineEnd}
 use Rattle.columns.specs.Records.{letters, fieldCount, tags, tagAmong, isNumber, numberOf, allNumbers, numbersIn, refusedLine, recordLine, numbersLine, recordIn, lineOfKind, lineIn, kindNumber, kindTags, hasShape, hasNumbers, lineTests, Parses}

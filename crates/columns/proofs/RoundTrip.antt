@@ -9,12 +9,12 @@ use lib.ListN.{length, take, drop, length-take, length-drop, take-append-drop}
 use lib.Seq.{take-at, drop-at, take-add, drop-drop}
 use Rattle.numbers.specs.Whole.{putAt}
 use Rattle.numbers.proofs.Tests.{by-test, is-true, not-both}
-use Rattle.columns.specs.declared.reader.Field.{Field}
-use Rattle.columns.specs.declared.reader.Field.the-variants.{Number, Bad}
+use Rattle.columns.specs.declared.parser.Field.{Field}
+use Rattle.columns.specs.declared.parser.Field.the-variants.{Number, Bad}
 use Rattle.records.specs.declared.Tag.{Tag}
 use Rattle.records.specs.declared.Kind.{Kind}
 use Rattle.records.specs.declared.Kind.the-variants.{Record, Refused}
-use Rattle.columns.specs.declared.reader.TextLine.{TextLine}
+use Rattle.columns.specs.declared.parser.TextLine.{TextLine}
 use Rattle.columns.specs.Decimals.{fitsIn, pad, same, fieldOf}
 use Rattle.columns.specs.Lines.{lineEnd, lineWith, widthOf, fields, allFit, lineFits, tagLine}
 use Rattle.columns.specs.Records.{letters, fieldCount, tags, tagAmong, isNumber, numberOf, allNumbers, numbersIn, zeros, refusedLine, recordLine, numbersLine, recordIn, lineOfKind, lineIn}

@@ -14,7 +14,7 @@ use mir.Val.{SFits}
 use Rattle.numbers.proofs.Parts.{ints}
 use Rattle.numbers.proofs.Machine.{fits-as}
 use Rattle.numbers.proofs.Arrays.{drop-next}
-use Rattle.columns.specs.declared.reader.Field.the-variants.{Number, Bad}
+use Rattle.columns.specs.declared.parser.Field.the-variants.{Number, Bad}
 use Rattle.columns.specs.Decimals.{valueOf}
 use Rattle.columns.specs.code.Parser.{leadingBlanks, isDigit, allDigits, runOf, negated}
 use Rattle.columns.proofs.Digits.{digit-yes}

@@ -5,8 +5,8 @@ use Prim.Native.Nat.{ℕ, zero, suc, _+_, _-_, _*_, _/_, _%_}
 use lib.Dec.{eqb, leb, ltb}
 use lib.IntN.{ℤ, pos, negsuc, negℤ}
 use lib.ListN.{length, replicate}
-use Rattle.columns.specs.declared.reader.Field.{Field}
-use Rattle.columns.specs.declared.reader.Field.the-variants.{Number, Bad}
+use Rattle.columns.specs.declared.parser.Field.{Field}
+use Rattle.columns.specs.declared.parser.Field.the-variants.{Number, Bad}
 
 -- ---- written
 

@@ -1,4 +1,4 @@
 // Numbers, tags and lines in fixed columns, read and written. proofs/ shows that reading and writing undo each other.
 mod bytes;
-pub mod reader;
+pub mod parser;
 pub mod writer;

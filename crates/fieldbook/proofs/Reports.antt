@@ -33,7 +33,7 @@ use Rattle.ledger.proofs.Whole.{Kept, fresh-kept, calls-kept}
 use Rattle.ledger.proofs.Again.{bookOf, fresh-holds, figures-held, figures-again}
 use Rattle.ledger.proofs.Traced.{points-back}
 use Rattle.ledger.proofs.Entries.{reading-calls, refusals-long}
-use Rattle.textbook.specs.declared.reading.State.{State}
+use Rattle.textbook.specs.declared.text.State.{State}
 use Rattle.fieldbook.specs.declared.Reduced.{Reduced}
 use Rattle.fieldbook.specs.declared.Reduced.the-variants.{Written, Refused}
 use Rattle.textbook.specs.Text.{mostText, lineEntry, entries, lineRefusals, readingAfter, refusalsFrom, callsOf}

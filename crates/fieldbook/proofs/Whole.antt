@@ -16,7 +16,7 @@ use Rattle.adjust.specs.declared.Point.{Point}
 use Rattle.records.specs.declared.Tag.{Tag}
 use Rattle.records.specs.declared.Kind.{Kind}
 use Rattle.records.specs.declared.Kind.the-variants.{Record, Refused}
-use Rattle.columns.specs.declared.reader.TextLine.{TextLine}
+use Rattle.columns.specs.declared.parser.TextLine.{TextLine}
 use Rattle.columns.specs.Decimals.{same}
 use Rattle.columns.specs.Lines.{lineEnd, heading, title}
 use Rattle.columns.specs.Records.{letters, tags, tagAmong, fieldCount, allNumbers, numbersIn, refusedLine, recordLine, numbersLine, recordIn, lineOfKind, lineIn}

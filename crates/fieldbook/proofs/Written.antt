@@ -28,7 +28,7 @@ use Rattle.rules.specs.LineState.{isClosed}
 use Rattle.book.specs.declared.CloseAnswer.{CloseAnswer}
 use Rattle.book.specs.declared.CloseAnswer.the-variants.{Closed, NotClosed}
 use Rattle.book.specs.Calls.{closingIn, figuresOf}
-use Rattle.textbook.specs.declared.reading.State.{State}
+use Rattle.textbook.specs.declared.text.State.{State}
 use Rattle.textbook.specs.Text.{Refusal, refusalsFrom}
 use Rattle.fieldbook.specs.Report.{refLine, closedNumbers, closedLine, pointNumbers, pointLine, openLine, closingLines}
 use Rattle.fieldbook.specs.Fits.{pointFits}

@@ -18,7 +18,7 @@ use columns::writer::is_wide;
 use columns::writer::put_line;
 use columns::writer::put_title;
 use rules::Book;
-use textbook::reading::State;
+use textbook::text::State;
 
 // The refusal of a line, where there is one: the index after it.
 pub(crate) fn put_refusal(buf: &mut [u8], at: usize, line: usize, number: u8) -> usize

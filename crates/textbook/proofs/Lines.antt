@@ -14,7 +14,7 @@ use Rattle.columns.specs.Decimals.{same}
 use Rattle.columns.specs.Lines.{lineWith, heading}
 use Rattle.columns.specs.Texts.{lines}
 use Rattle.columns.proofs.Texts.{lines-next, lines-end}
-use Rattle.textbook.specs.declared.reading.State.{State}
+use Rattle.textbook.specs.declared.text.State.{State}
 use Rattle.textbook.specs.Text.{Refusal, mostText, tooLong, refusalsFrom}
 use Rattle.textbook.specs.code.State.{textFrom, lineAt, afterHeading, unread, textState, refusedText, textRead}
 

@@ -24,7 +24,7 @@ use Rattle.ledger.specs.Entries.{Entry, entryRefusal, entryNext, entryStep}
 use Rattle.ledger.proofs.Whole.{Kept, fresh-kept}
 use Rattle.ledger.proofs.Again.{bookOf, fresh-holds}
 use Rattle.ledger.proofs.Entries.{entry-kept, entry-step}
-use Rattle.textbook.specs.declared.reading.State.{State}
+use Rattle.textbook.specs.declared.text.State.{State}
 use Rattle.textbook.specs.Text.{lineEntry, lineRefusals, readingAfter}
 use Rattle.textbook.specs.code.State.{lineAt, lineCount, read, afterHeading}
 

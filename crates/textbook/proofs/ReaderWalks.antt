@@ -16,12 +16,12 @@ use denote.Signature.{namedLft}
 use denote.Struct.Laws as LL
 use Rattle.columns.specs.Texts.{lines}
 use Rattle.textbook.specs.declared.reader.Reader.{Reader}
-use Rattle.textbook.specs.declared.reading.State.{State}
+use Rattle.textbook.specs.declared.text.State.{State}
 use Rattle.textbook.specs.code.State.{textFrom, textState}
 use Rattle.textbook.proofs.reader.Reader as T
 use Rattle.textbook.proofs.reader.Reader.Laws as T′
-use Rattle.textbook.proofs.reading.State as Y
-use Rattle.textbook.proofs.reading.State.Laws as Y′
+use Rattle.textbook.proofs.text.State as Y
+use Rattle.textbook.proofs.text.State.Laws as Y′
 
 -- what a reader's text leaves from its line on
 abbrev pub left : Reader → State

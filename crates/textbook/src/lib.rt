@@ -1,3 +1,3 @@
 // The text book, read line by line into a state.
 pub mod reader;
-pub mod reading;
+pub mod text;

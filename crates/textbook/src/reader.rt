@@ -3,8 +3,8 @@
 ghost use mathlib.Core.Path.{_≡_};
 ghost use Rattle.columns.specs.Texts.{lines};
 ghost use Rattle.textbook.specs.code.State.{textFrom, textState, textRead};
-use super::reading::State;
-use super::reading::read_from;
+use super::text::State;
+use super::text::read_from;
 
 // A text, and the number of the line that is read next, counted from 1.
 pub(crate) struct Reader<'a> {

@@ -1,11 +1,11 @@
--- The parts of a field as its parser reads them, each in one loop or branch; proofs/Parser.antt shows how they make up `fieldOf`.
+-- The parts of a field as its parser reads them, each in one loop or branch; proofs/FieldParts.antt shows how they make up `fieldOf`.
 use mathlib.Core.Bool.{Bool, true, false, cond}
 use mathlib.Core.List.{List, [], _∷_}
 use Prim.Native.Nat.{ℕ, zero, suc, _+_}
 use lib.Dec.{eqb, leb}
 use lib.IntN.{pos, negsuc}
-use Rattle.columns.specs.declared.reader.Field.{Field}
-use Rattle.columns.specs.declared.reader.Field.the-variants.{Number, Bad}
+use Rattle.columns.specs.declared.parser.Field.{Field}
+use Rattle.columns.specs.declared.parser.Field.the-variants.{Number, Bad}
 use Rattle.columns.specs.Decimals.{valueOf, fieldOf}
 
 -- how many blanks the bytes begin with

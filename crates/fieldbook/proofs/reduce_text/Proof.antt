@@ -7,7 +7,7 @@ use lib.ListN.{length}
 use Rattle.numbers.specs.Whole.{putAt}
 use Rattle.columns.specs.Texts.{lines, joined}
 use Rattle.textbook.specs.declared.reader.TextRead.{TextRead}
-use Rattle.textbook.specs.declared.reading.State.{State}
+use Rattle.textbook.specs.declared.text.State.{State}
 use Rattle.textbook.specs.Text.{mostText}
 use Rattle.textbook.specs.code.State.{textState}
 use Rattle.textbook.proofs.Lines.{read-short, long-read, short-read}

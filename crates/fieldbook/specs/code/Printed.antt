@@ -13,7 +13,7 @@ use Rattle.rules.specs.declared.Book.{Book}
 use Rattle.book.specs.declared.CloseAnswer.{CloseAnswer}
 use Rattle.book.specs.declared.CloseAnswer.the-variants.{Closed, NotClosed}
 use Rattle.book.specs.Calls.{closingIn, figuresOf}
-use Rattle.textbook.specs.declared.reading.State.{State}
+use Rattle.textbook.specs.declared.text.State.{State}
 use Rattle.textbook.specs.Text.{refusalsFrom}
 use Rattle.fieldbook.specs.Report.{refLine, openLine, closingLines}
 use Rattle.fieldbook.specs.Fits.{closedFits, pointFits}

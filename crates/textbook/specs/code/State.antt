@@ -11,7 +11,7 @@ use Rattle.rules.specs.LineState.{bookWith}
 use Rattle.book.specs.Calls.{freshBook}
 use Rattle.ledger.specs.Plain.{Reading, freshReading, plainState}
 use Rattle.textbook.specs.declared.reader.TextRead.{TextRead}
-use Rattle.textbook.specs.declared.reading.State.{State}
+use Rattle.textbook.specs.declared.text.State.{State}
 use Rattle.textbook.specs.Text.{tooLong, lineRefusals, readingAfter}
 
 -- ---- lines of a text, counted from 1

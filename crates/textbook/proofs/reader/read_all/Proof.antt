@@ -34,10 +34,10 @@ use denote.Exit.{yes}
 use Rattle.adjust.proofs.Walks.{local-at, states, calls-for}
 use Rattle.columns.specs.Texts.{lines}
 use Rattle.textbook.specs.declared.reader.Reader.{Reader}
-use Rattle.textbook.specs.declared.reading.State.{State}
+use Rattle.textbook.specs.declared.text.State.{State}
 use Rattle.textbook.specs.code.State.{textState}
 use Rattle.textbook.proofs.ReaderWalks.{left, B, reader-typed, state-typed}
-use Rattle.textbook.proofs.reading.State as Y
+use Rattle.textbook.proofs.text.State as Y
 use Rattle.textbook.proofs.reader.start as start
 use Rattle.textbook.proofs.reader.start.Symbol as start-def
 use Rattle.textbook.proofs.reader.start.Symbol.{name as #start}

@@ -37,15 +37,15 @@ use denote.Triple.Walked.{says, Stays, stay-none, walkOf, goes-none, Walks, ends
 use denote.Exit.{yes}
 use Rattle.adjust.proofs.Walks.{local-at, states, calls-for}
 use Rattle.textbook.specs.declared.reader.Reader.{Reader}
-use Rattle.textbook.specs.declared.reading.State.{State}
+use Rattle.textbook.specs.declared.text.State.{State}
 use Rattle.textbook.proofs.ReaderWalks.{left, B, reader-typed, state-typed}
 use Rattle.textbook.proofs.reader.Reader as T
 use Rattle.textbook.proofs.reader.Reader.Laws as T′
-use Rattle.textbook.proofs.reading.State as Y
-use Rattle.textbook.proofs.reading.read_from as read-from
-use Rattle.textbook.proofs.reading.read_from.Symbol as read-from-def
-use Rattle.textbook.proofs.reading.read_from.Symbol.{name as #read-from}
-use Rattle.textbook.proofs.reading.read_from.Met as read-from-thm
+use Rattle.textbook.proofs.text.State as Y
+use Rattle.textbook.proofs.text.read_from as read-from
+use Rattle.textbook.proofs.text.read_from.Symbol as read-from-def
+use Rattle.textbook.proofs.text.read_from.Symbol.{name as #read-from}
+use Rattle.textbook.proofs.text.read_from.Met as read-from-thm
 use Rattle.textbook.proofs.reader.read_rest.Key.{name as #read-rest}
 use Rattle.textbook.proofs.reader.read_rest as f
 use Rattle.textbook.proofs.reader.read_rest.Statement as stated
@@ -151,4 +151,4 @@ read-rest-spec 𝓤 H 𝓜 𝓖 𝓡 =
     entered 𝓤 H (tripleOf 𝓤 H (𝓖 .A) f.signature (f.spec 𝓤 H (𝓖 .A) (𝓜 .mem) (𝓡 .run)))
     (tables 𝓤 H 𝓜 𝓡 code.env .C) (tables 𝓤 H 𝓜 𝓡 code.env .Λ) #read-rest code.function (code.unfolded 𝓤 H 𝓜 𝓡)
     (f-meets 𝓤 H (𝓖 .A) (givenOf 𝓤 H 𝓜 𝓖) (𝓜 .mem) (𝓡 .run) (tablesOf 𝓤 H 𝓜 (tables 𝓤 H 𝓜 𝓡 code.env))
-    (cited 𝓤 H (ReadFrom 𝓤 H (𝓖 .A) (𝓜 .mem) (𝓡 .run)) 𝓜 𝓡 code.env #read-from read-from-def.routine code.calls-textbook·reading·read-from (read-from-thm.met 𝓤 H 𝓜 𝓖 𝓡)))
+    (cited 𝓤 H (ReadFrom 𝓤 H (𝓖 .A) (𝓜 .mem) (𝓡 .run)) 𝓜 𝓡 code.env #read-from read-from-def.routine code.calls-textbook·text·read-from (read-from-thm.met 𝓤 H 𝓜 𝓖 𝓡)))
