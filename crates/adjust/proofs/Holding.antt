@@ -5,7 +5,7 @@ use Prim.Native.Nat.{ℕ, zero, suc, _+_, _≤_, _<_}
 use native.Mathlib.Omega.{arith}
 use lib.ListN.{length, getD, set, drop, length-append, length-map}
 use lib.IntN.{ℤ, pos}
-use Rattle.numbers.specs.Whole.{over}
+use Rattle.numbers.specs.Numbers.{over}
 use Rattle.numbers.proofs.Arrays.{drop-next, over-next, over-again}
 use Rattle.adjust.specs.declared.Section.{Section}
 use Rattle.adjust.specs.declared.Sections.{Sections}
@@ -13,7 +13,7 @@ use Rattle.adjust.specs.Sections.{sectionAt, sectionsFrom, sectionsOf, h
 use Rattle.adjust.proofs.Lists.{from-length}
 
 -- the arrays have 64 places each, as the type says
-pub record Whole (s : Sections) : Type 0 where
+pub record Places (s : Sections) : Type 0 where
   pub numbers : length (s .numbers) ≡ 64
   pub heights : length (s .heights) ≡ 64
   pub distances : length (s .distances) ≡ 64
@@ -75,7 +75,7 @@ module _ (s : Sections) (f : Section → ℤ) (a : List ℤ) (e : (k : ℕ) → 
       ∙ sym (over-next (map f (sectionsOf s)) a (f x) (omega (arith, n)))
       ∙ (λ i. set (own (omega arith) i) (n i) (f x))
 
-pub holding-own : (s : Sections) → Whole s → s .count ≤ 64 → holding s (sectionsOf s) ≡ s
+pub holding-own : (s : Sections) → Places s → s .count ≤ 64 → holding s (sectionsOf s) ≡ s
 unfolding holding
 holding-own s w h = λ i.
     record {
@@ -97,7 +97,7 @@ stored s x =
       discrepancies = set (s .discrepancies) (s .count) (x .discrepancy);
     }
 
-pub holding-more : (s : Sections) (x : Section) → Whole s → s .count < 64 → holding s (sectionsOf s ++ (x ∷ [])) ≡ stored s x
+pub holding-more : (s : Sections) (x : Section) → Places s → s .count < 64 → holding s (sectionsOf s ++ (x ∷ [])) ≡ stored s x
 unfolding holding
 holding-more s x w h = λ i.
     record {

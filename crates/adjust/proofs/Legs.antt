@@ -12,7 +12,7 @@ use lib.Dec.{eqb}
 use lib.ListN.{length, getD, take, drop, length-map, getD-replicate, List·getD-map}
 use lib.Seq.{take-length}
 use lib.IntN.{ℤ, pos}
-use Rattle.numbers.specs.Whole.{filled, over}
+use Rattle.numbers.specs.Numbers.{filled, over}
 use Rattle.numbers.proofs.Arrays.{drop-next}
 use Rattle.numbers.proofs.Filled.{filled-length, filled-take}
 use Rattle.adjust.specs.declared.Section.{Section}

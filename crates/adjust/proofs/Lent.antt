@@ -3,7 +3,7 @@ use mathlib.Core.Path.{_≡_, refl, sym, ap, _∙_}
 use mathlib.Core.Bool.{Bool, false, not, _||_}
 use Prim.Native.Nat.{ℕ, zero, suc, _+_}
 use lib.Dec.{leb}
-use Rattle.numbers.specs.Whole.{anyOf}
+use Rattle.numbers.specs.Numbers.{anyOf}
 use Rattle.adjust.specs.declared.Section.{Section}
 use Rattle.adjust.specs.declared.Sections.{Sections}
 use Rattle.adjust.specs.Sections.{sectionAt, sectionsFrom, sectionsOf, lent, outside, anyOutside, misfit}

@@ -8,7 +8,7 @@ use lib.ListN.{length}
 use lib.IntN.{ℤ, pos, natAbs}
 use lib.Signed.{_≤ℤ_, leZ}
 use borrow.Author.Tests.{le-leb}
-use Rattle.numbers.specs.Whole.{within, between}
+use Rattle.numbers.specs.Numbers.{within, between}
 use Rattle.numbers.proofs.Tests.{and-l, and-r}
 use Rattle.numbers.proofs.All.{All, all-head, all-tail, all-weaken}
 use Rattle.numbers.proofs.Parts.{ints, parts-abs, test-le}

@@ -5,7 +5,7 @@ use Prim.Native.Nat.{ℕ}
 use lib.ListN.{length}
 use lib.Dec.{leb, ltb, eqb}
 use lib.IntN.{ℤ}
-use Rattle.numbers.specs.Whole.{over}
+use Rattle.numbers.specs.Numbers.{over}
 use Rattle.numbers.specs.Tables.{firstOf}
 use Rattle.adjust.specs.declared.Section.{Section}
 use Rattle.adjust.specs.declared.Point.{Point}

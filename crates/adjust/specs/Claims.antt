@@ -3,7 +3,7 @@ use mathlib.Core.Path.{_≡_}
 use mathlib.Core.List.{List, [], _∷_, map}
 use Prim.Native.Nat.{_*_, _≤_}
 use lib.IntN.{ℤ, pos, negℤ, natAbs, _+ℤ_, _-ℤ_, _*ℤ_}
-use Rattle.numbers.specs.Whole.{sum, lastOf}
+use Rattle.numbers.specs.Numbers.{sum, lastOf}
 use Rattle.roots.specs.Round.{roundEven}
 use Rattle.adjust.specs.declared.Section.{Section}
 use Rattle.adjust.specs.declared.Point.{Point}

@@ -3,7 +3,7 @@ use mathlib.Core.List.{List, map}
 use Prim.Native.Nat.{ℕ}
 use lib.ListN.{take, replicate}
 use lib.IntN.{pos}
-use Rattle.numbers.specs.Whole.{filled}
+use Rattle.numbers.specs.Numbers.{filled}
 use Rattle.adjust.specs.declared.Section.{Section}
 use Rattle.adjust.specs.declared.Sections.{Sections}
 use Rattle.adjust.specs.declared.entry.Leg.{Leg}

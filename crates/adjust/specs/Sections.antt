@@ -5,7 +5,7 @@ use Prim.Native.Nat.{ℕ, zero, suc, _+_}
 use lib.ListN.{length, getD}
 use lib.Dec.{leb}
 use lib.IntN.{ℤ, pos, negℤ}
-use Rattle.numbers.specs.Whole.{within, between, anyOf, over}
+use Rattle.numbers.specs.Numbers.{within, between, anyOf, over}
 use Rattle.adjust.specs.declared.Section.{Section}
 use Rattle.adjust.specs.declared.Sections.{Sections}
 use Rattle.adjust.specs.Sizes.{highest, mostQ, mostR, mostD}

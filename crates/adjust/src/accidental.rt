@@ -3,7 +3,7 @@ ghost use mathlib.Core.Path.{_≡_};
 ghost use mathlib.Core.List.{map};
 ghost use Prim.Native.Nat.{_≤_};
 ghost use lib.IntN.{natAbs, _+ℤ_};
-ghost use Rattle.numbers.specs.Whole.{sum};
+ghost use Rattle.numbers.specs.Numbers.{sum};
 ghost use Rattle.adjust.specs.Sizes.{mostD, mostSumT, mostAllowed};
 ghost use Rattle.adjust.specs.Sections.{sectionsOf};
 ghost use Rattle.adjust.specs.Line.{accidental, accidentalSum, verdict};

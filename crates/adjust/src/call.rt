@@ -3,7 +3,7 @@ ghost use mathlib.Core.Path.{_≡_};
 ghost use mathlib.Core.List.{map};
 ghost use Prim.Native.Nat.{_≤_};
 ghost use lib.ListN.{length, take, drop};
-ghost use Rattle.numbers.specs.Whole.{over};
+ghost use Rattle.numbers.specs.Numbers.{over};
 ghost use Rattle.adjust.specs.declared.Point.{Point};
 ghost use Rattle.adjust.specs.Sections.{sectionsOf};
 ghost use Rattle.adjust.specs.Call.{adjustRefusal, numberOf, answerOf, heightsAfter};

@@ -2,7 +2,7 @@
 ghost use mathlib.Core.Path.{_≡_};
 ghost use Prim.Native.Nat.{_≤_};
 ghost use lib.IntN.{natAbs, _+ℤ_};
-ghost use Rattle.numbers.specs.Whole.{filled};
+ghost use Rattle.numbers.specs.Numbers.{filled};
 ghost use Rattle.adjust.specs.Sizes.{mostSumQ, mostL};
 ghost use Rattle.adjust.specs.Sections.{sectionsOf};
 ghost use Rattle.adjust.specs.Line.{frame, exactTop, printedHeight, pointAfter, points};

@@ -1,7 +1,7 @@
 // Closing figures over the sections of a line, and the adjustment call.
 ghost use mathlib.Core.Path.{_≡_};
 ghost use mathlib.Core.List.{[]};
-ghost use Rattle.numbers.specs.Whole.{filled};
+ghost use Rattle.numbers.specs.Numbers.{filled};
 ghost use Rattle.adjust.specs.Sections.{sectionsOf, heightInRange};
 ghost use Rattle.adjust.specs.Frames.{noPoint, figuresFit, lineTotals, adjustedOf, lineFigures};
 ghost use Rattle.adjust.specs.Line.{closing};

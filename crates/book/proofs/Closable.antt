@@ -6,7 +6,7 @@ use Prim.Native.Nat.{ℕ}
 use lib.Dec.{eqb}
 use lib.ListN.{length}
 use lib.IntN.{ℤ, pos}
-use Rattle.numbers.specs.Whole.{filled}
+use Rattle.numbers.specs.Numbers.{filled}
 use Rattle.numbers.proofs.Tests.{or-l, or-r, not-false}
 use Rattle.numbers.proofs.Tables.{failed, number-cond, nonzero-cond, cond-of}
 use Rattle.adjust.specs.declared.Section.{Section}

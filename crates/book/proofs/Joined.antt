@@ -20,14 +20,14 @@ use Rattle.adjust.specs.Terms.{termsOf}
 use Rattle.adjust.specs.Call.{numberOf, answerOf}
 use Rattle.adjust.proofs.Refused.{number-of-answer}
 use Rattle.adjust.proofs.Lists.{from-length}
-use Rattle.adjust.proofs.Holding.{Whole, holding-own, holding-more}
+use Rattle.adjust.proofs.Holding.{Places, holding-own, holding-more}
 use Rattle.rules.specs.declared.Line.{Line}
 use Rattle.rules.specs.declared.Book.{Book}
 use Rattle.rules.specs.declared.Waiting.{Waiting}
 use Rattle.rules.specs.declared.Waiting.the-variants.{Nothing, Outward}
 use Rattle.rules.specs.LineState.{LineState, stateOf, bookWith, isFresh, isEmpty, isReturn, outwardOrReturn, noRun, oneWay, bothWays}
 use Rattle.rules.specs.Rules.{Call, open-line, station, end-run, drop-run, drop-section, close-line, open-spur, close-spur, collimation, withRuns, withSection, bookRefusal, taken}
-use Rattle.rules.proofs.Tables.{book-fails, line-whole}
+use Rattle.rules.proofs.Tables.{book-fails, line-unbroken}
 use Rattle.rules.proofs.Unbroken.{SmallWaiting, Unbroken, unbroken, fresh-none}
 use Rattle.rules.proofs.Looked.{counted-broken}
 use Rattle.book.specs.declared.Change.{Change}
@@ -38,7 +38,7 @@ use Rattle.book.specs.code.Changes.{noSection, lineOnly, lineChange, eff
 
 -- ---- a section that is stored
 
-pub stored-sections : (s : Sections) (x : Change) → Whole s
+pub stored-sections : (s : Sections) (x : Change) → Places s
     → record {
       count = cond (stores x (s .count)) (s .count + 1) (s .count);
       numbers = storedIn x (s .count) (s .numbers) (x .section .number);
@@ -63,8 +63,8 @@ stored-sections s x w = go (stores x (s .count)) refl
 
 -- ---- a call that is taken finds the line unbroken
 
-pub whole-line : (b : Book) (c : Call) → bookRefusal (stateOf b) c ≡ 0 → Unbroken (b .line) (b .sections .count)
-whole-line b c e = unbroken (b .line) (b .sections .count) (sym (counted-broken (b .line) (b .sections)) ∙ line-whole (stateOf b) c e)
+pub book-unbroken : (b : Book) (c : Call) → bookRefusal (stateOf b) c ≡ 0 → Unbroken (b .line) (b .sections .count)
+book-unbroken b c e = unbroken (b .line) (b .sections .count) (sym (counted-broken (b .line) (b .sections)) ∙ line-unbroken (stateOf b) c e)
 
 -- ---- the end of a run
 
@@ -87,7 +87,7 @@ taken-number : (l : Line) (c : Call) → effectOf l c .number ≡ 0
 unfolding effectOf
 taken-number l c = refl
 
-module _ (b : Book) (w : Whole (b .sections)) where
+module _ (b : Book) (w : Places (b .sections)) where
   abbrev ss : List Section
   ss = sectionsOf (b .sections)
 
@@ -117,19 +117,19 @@ module _ (b : Book) (w : Whole (b .sections)) where
   effect (open-line order instrument number height) e =
       let c = open-line order instrument number height in
       let fresh = not-false (isFresh (b .line .stage)) (book-fails (stateOf b) c e 21) in
-      line-alone (taken (stateOf b) c) (whole-line b c e .few) (fresh-none (b .line) ss (line-whole (stateOf b) c e) fresh)
-  effect (station kb kf readings) e = line-alone (taken (stateOf b) (station kb kf readings)) (whole-line b (station kb kf readings) e .few) refl
+      line-alone (taken (stateOf b) c) (book-unbroken b c e .few) (fresh-none (b .line) ss (line-unbroken (stateOf b) c e) fresh)
+  effect (station kb kf readings) e = line-alone (taken (stateOf b) (station kb kf readings)) (book-unbroken b (station kb kf readings) e .few) refl
   effect (end-run number) e =
-      ended number (b .line .waiting) (termsOf (b .line .opening .class) .double) (room (b .line .waiting) (whole-line b (end-run number) e .waiting) (book-fails (stateOf b) (end-run number) e 31))
-  effect drop-run e = line-alone (taken (stateOf b) drop-run) (whole-line b drop-run e .few) refl
-  effect drop-section e = line-alone (taken (stateOf b) drop-section) (whole-line b drop-section e .few) refl
+      ended number (b .line .waiting) (termsOf (b .line .opening .class) .double) (room (b .line .waiting) (book-unbroken b (end-run number) e .waiting) (book-fails (stateOf b) (end-run number) e 31))
+  effect drop-run e = line-alone (taken (stateOf b) drop-run) (book-unbroken b drop-run e .few) refl
+  effect drop-section e = line-alone (taken (stateOf b) drop-section) (book-unbroken b drop-section e .few) refl
   effect (open-spur order instrument number height) e =
       let c = open-spur order instrument number height in
       let fresh = not-false (isFresh (b .line .stage)) (book-fails (stateOf b) c e 21) in
-      line-alone (taken (stateOf b) c) (whole-line b c e .few) (fresh-none (b .line) ss (line-whole (stateOf b) c e) fresh)
-  effect (collimation x) e = line-alone (taken (stateOf b) (collimation x)) (whole-line b (collimation x) e .few) refl
-  effect (close-spur number) e = line-alone (taken (stateOf b) (close-spur number)) (whole-line b (close-spur number) e .few) refl
-  effect (close-line number end) e = line-alone (taken (stateOf b) (close-line number end)) (whole-line b (close-line number end) e .few) refl
+      line-alone (taken (stateOf b) c) (book-unbroken b c e .few) (fresh-none (b .line) ss (line-unbroken (stateOf b) c e) fresh)
+  effect (collimation x) e = line-alone (taken (stateOf b) (collimation x)) (book-unbroken b (collimation x) e .few) refl
+  effect (close-spur number) e = line-alone (taken (stateOf b) (close-spur number)) (book-unbroken b (close-spur number) e .few) refl
+  effect (close-line number end) e = line-alone (taken (stateOf b) (close-line number end)) (book-unbroken b (close-line number end) e .few) refl
 
   pub made : (c : Call) → changed b (changeOf b c) ≡ bookAfter b c
   unfolding bookAfter

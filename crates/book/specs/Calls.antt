@@ -7,7 +7,7 @@ use Prim.Native.Nat.{ℕ, _+_}
 use lib.ListN.{take}
 use lib.Dec.{eqb}
 use lib.IntN.{ℤ, pos}
-use Rattle.numbers.specs.Whole.{filled}
+use Rattle.numbers.specs.Numbers.{filled}
 use Rattle.numbers.specs.Tables.{firstOf}
 use Rattle.adjust.specs.declared.terms.Class.the-variants.{Fourth}
 use Rattle.station.specs.declared.Instrument.the-variants.{Ds3}

@@ -4,7 +4,7 @@ ghost use Rattle.adjust.specs.Call.{answerOf};
 ghost use Rattle.rules.specs.Rules.{open-line, station, end-run, drop-run, drop-section, close-line, open-spur, close-spur, collimation};
 ghost use mathlib.Core.Bool.{true};
 ghost use mathlib.Core.List.{[]};
-ghost use Rattle.numbers.specs.Whole.{filled};
+ghost use Rattle.numbers.specs.Numbers.{filled};
 ghost use Rattle.adjust.specs.Sections.{sectionsOf};
 ghost use Rattle.adjust.specs.Line.{closing};
 ghost use Rattle.adjust.specs.Frames.{noPoint, figuresFit};

@@ -4,7 +4,7 @@ use mathlib.Core.Bool.{true, _&&_}
 use Prim.Native.Nat.{_≤_}
 use lib.IntN.{pos, natAbs, _-ℤ_}
 use lib.Signed.{_≤ℤ_, leZ}
-use Rattle.numbers.specs.Whole.{between}
+use Rattle.numbers.specs.Numbers.{between}
 use Rattle.numbers.proofs.Tests.{and-l, and-r}
 use Rattle.numbers.proofs.Parts.{ints, parts-sub, parts-times, test-le}
 use Rattle.numbers.proofs.Sizes.{between-size}

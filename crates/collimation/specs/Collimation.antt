@@ -5,7 +5,7 @@ use Prim.Native.Nat.{ℕ}
 use lib.ListN.{getD}
 use lib.IntN.{ℤ, pos, natAbs, _-ℤ_, _*ℤ_}
 use lib.Signed.{leZ}
-use Rattle.numbers.specs.Whole.{between}
+use Rattle.numbers.specs.Numbers.{between}
 
 -- the sums of four readings on the staffs A and B, from I1 and from I2, and the distances of I2 to B and to A; all in mm
 pub record Collimation : Type 0 where

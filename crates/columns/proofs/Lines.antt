@@ -10,7 +10,7 @@ use lib.IntN.{ℤ, pos, negℤ}
 use lib.Signed.{ltZ}
 use lib.ListN.{length, take, drop, getD, replicate, length-append, length-drop}
 use lib.Seq.{take-all, drop-append-le}
-use Rattle.numbers.specs.Whole.{putAt}
+use Rattle.numbers.specs.Numbers.{putAt}
 use Rattle.numbers.proofs.Tests.{by-test, is-false}
 use Rattle.numbers.proofs.Parts.{ints, posPart, negPart, parts-abs, test-ge}
 use Rattle.numbers.proofs.Arrays.{put-after, drop-next}

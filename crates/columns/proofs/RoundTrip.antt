@@ -7,7 +7,7 @@ use native.Mathlib.Omega.{arith}
 use lib.IntN.{ℤ}
 use lib.ListN.{length, take, drop, length-take, length-drop, take-append-drop}
 use lib.Seq.{take-at, drop-at, take-add, drop-drop}
-use Rattle.numbers.specs.Whole.{putAt}
+use Rattle.numbers.specs.Numbers.{putAt}
 use Rattle.numbers.proofs.Tests.{by-test, is-true, not-both}
 use Rattle.columns.specs.declared.parser.Field.{Field}
 use Rattle.columns.specs.declared.parser.Field.the-variants.{Number, Bad}

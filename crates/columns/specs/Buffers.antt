@@ -4,7 +4,7 @@ use mathlib.Core.List.{List}
 use Prim.Native.Nat.{ℕ, _+_}
 use lib.Dec.{leb}
 use lib.ListN.{length}
-use Rattle.numbers.specs.Whole.{putAt}
+use Rattle.numbers.specs.Numbers.{putAt}
 
 -- d with the block s from index `at` on where d has room for it; otherwise d as it is
 unfoldable pub placed : List ℕ → ℕ → List ℕ → List ℕ

@@ -7,7 +7,7 @@ use lib.Dec.{eqb}
 use lib.IntN.{ℤ, pos}
 use lib.ListN.{take, drop, replicate}
 use Rattle.numbers.specs.Tables.{firstOf}
-use Rattle.numbers.specs.Whole.{putAt}
+use Rattle.numbers.specs.Numbers.{putAt}
 use Rattle.columns.specs.declared.parser.Field.{Field}
 use Rattle.columns.specs.declared.parser.Field.the-variants.{Number, Bad}
 use Rattle.records.specs.declared.Tag.{Tag}

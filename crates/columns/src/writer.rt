@@ -5,7 +5,7 @@ ghost use mathlib.Core.List.{_++_};
 ghost use Prim.Native.Nat.{_+_, _-_, _≤_};
 ghost use lib.Dec.{leb};
 ghost use lib.ListN.{length};
-ghost use Rattle.numbers.specs.Whole.{putAt};
+ghost use Rattle.numbers.specs.Numbers.{putAt};
 ghost use Rattle.columns.specs.Buffers.{placed};
 ghost use Rattle.columns.specs.Decimals.{blanks, digits, decimal, fitsIn, pad};
 ghost use Rattle.columns.specs.Lines.{widthOf, fields, allFit, columnsOf, lineFits, lineWith, tagLine, isWide, title};

@@ -5,7 +5,7 @@ use mathlib.Core.List.{List, [], _∷_, _++_, map}
 use Prim.Native.Nat.{ℕ}
 use lib.Dec.{ltb}
 use lib.ListN.{length, length-map}
-use Rattle.numbers.specs.Whole.{putAt}
+use Rattle.numbers.specs.Numbers.{putAt}
 use Rattle.columns.specs.Lines.{heading, title}
 use Rattle.columns.specs.Texts.{lines, joined}
 use Rattle.columns.proofs.Compare.{same-refl}
@@ -19,7 +19,7 @@ use Rattle.rules.specs.LineState.{isClosed}
 use Rattle.ledger.specs.Plain.{Reading, freshReading, after, refusals, sectionOf, figuresOf}
 use Rattle.ledger.specs.Trace.{SoundTrace}
 use Rattle.ledger.proofs.Every.{every-list, same-figures, none-given}
-use Rattle.ledger.proofs.Whole.{open-not-closed, fresh-not-closed}
+use Rattle.ledger.proofs.Kept.{open-not-closed, fresh-not-closed}
 use Rattle.ledger.proofs.Traced.{every-trace}
 use Rattle.ledger.proofs.Entries.{reading-calls, numbers-calls}
 use Rattle.textbook.specs.Text.{entries, lineRefusals, readingAfter, callsOf, refusalsFrom}

@@ -9,7 +9,7 @@ use lib.Dec.{ltb}
 use lib.ListN.{length}
 use lib.IntN.{ℤ, pos, natAbs, _+ℤ_, _-ℤ_, _*ℤ_}
 use lib.Signed.{_≤ℤ_, leZ}
-use Rattle.numbers.specs.Whole.{sum, within}
+use Rattle.numbers.specs.Numbers.{sum, within}
 use Rattle.numbers.proofs.Tests.{and-l, and-r}
 use Rattle.numbers.proofs.All.{All, all-head, all-tail}
 use Rattle.numbers.proofs.Parts.{ints, negPart, parts-add, parts-sub, parts-times, parts-abs}

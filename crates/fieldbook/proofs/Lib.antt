@@ -6,4 +6,4 @@ pub mod Figures
 pub mod Widths
 pub mod Written
 pub mod Reports
-pub mod Whole
+pub mod WholeLines

@@ -7,7 +7,7 @@ use native.Mathlib.Omega.{arith}
 use borrow.Author.Tests.{lt-ltb, le-ltb}
 use lib.Dec.{ltb, eqb}
 use lib.ListN.{length, length-map, take}
-use Rattle.numbers.specs.Whole.{anyOf, putAt, filled}
+use Rattle.numbers.specs.Numbers.{anyOf, putAt, filled}
 use Rattle.numbers.specs.Tables.{Lowest}
 use Rattle.numbers.proofs.Tests.{by-test, is-true}
 use Rattle.numbers.proofs.Tables.{first-lowest, number-cond, cond-of}
@@ -29,7 +29,7 @@ use Rattle.rules.specs.Rules.{Call}
 use Rattle.adjust.specs.Sections.{holding}
 use Rattle.ledger.specs.Plain as Plain
 use Rattle.ledger.specs.Plain.{Reading, freshReading, after, plainState, sectionOf}
-use Rattle.ledger.proofs.Whole.{Kept, fresh-kept, calls-kept}
+use Rattle.ledger.proofs.Kept.{Kept, fresh-kept, calls-kept}
 use Rattle.ledger.proofs.Again.{bookOf, fresh-holds, figures-held, figures-again}
 use Rattle.ledger.proofs.Traced.{points-back}
 use Rattle.ledger.proofs.Entries.{reading-calls, refusals-long}

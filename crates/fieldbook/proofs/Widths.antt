@@ -36,7 +36,7 @@ use Rattle.ledger.specs.Claims.{ClosedBy, by-end, by-fin}
 use Rattle.ledger.specs.Plain.{Reading, freshReading, after, figuresOf, plainState}
 use Rattle.rules.proofs.Tables.{fails}
 use Rattle.ledger.proofs.Runs.{narrow}
-use Rattle.ledger.proofs.Whole.{Kept, calls-kept}
+use Rattle.ledger.proofs.Kept.{Kept, calls-kept}
 use Rattle.ledger.proofs.Every.{every-list}
 use Rattle.fieldbook.specs.Report.{shownT, pointNumbers}
 use Rattle.fieldbook.specs.Fits.{closedFits, pointFits, FiguresFit}

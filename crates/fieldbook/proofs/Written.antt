@@ -10,7 +10,7 @@ use lib.Dec.{eqb}
 use lib.IntN.{ℤ, pos}
 use lib.ListN.{length, getD, take, drop, length-append, length-take, drop-of-length-le}
 use lib.Seq.{getD-take}
-use Rattle.numbers.specs.Whole.{putAt}
+use Rattle.numbers.specs.Numbers.{putAt}
 use Rattle.numbers.proofs.Tests.{by-test}
 use Rattle.numbers.proofs.All.{all-head, all-tail}
 use Rattle.numbers.proofs.Arrays.{length-putAt, put-after, put-all, drop-next}

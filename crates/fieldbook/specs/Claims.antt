@@ -9,7 +9,7 @@ use Rattle.ledger.specs.Plain.{freshReading, closings}
 use Rattle.ledger.specs.Entries.{callNumbers}
 use Rattle.ledger.specs.Claims.{ClosedOnce}
 use Rattle.ledger.specs.Trace.{FreshEnsures, Trace}
-use Rattle.numbers.specs.Whole.{putAt}
+use Rattle.numbers.specs.Numbers.{putAt}
 use Rattle.columns.specs.Lines.{heading, title}
 use Rattle.columns.specs.Texts.{lines, joined}
 use Rattle.textbook.specs.Text.{entries, lineRefusals, readingAfter, callsOf, refusalsFrom}

@@ -6,7 +6,7 @@ use Prim.Native.Nat.{ℕ}
 use Prim.Native.Char.{code}
 use Prim.Native.String.{String, [], _∷_, _++_}
 use lib.IntN.{ℤ, pos, negsuc}
-use Rattle.numbers.specs.Whole.{putAt}
+use Rattle.numbers.specs.Numbers.{putAt}
 use Rattle.records.specs.declared.Tag.{Tag}
 use Rattle.records.specs.declared.Tag.the-variants.{Lin, Sta, Run, End}
 use Rattle.roots.specs.Round.{roundEven}

@@ -3,7 +3,7 @@ ghost use mathlib.Core.Path.{_≡_};
 ghost use Rattle.fieldbook.specs.Report.{bufferAfter, reducedNumber, reducedLength, reducedOf, Reduces, printedOf};
 use textbook::reader::read_text;
 ghost use lib.ListN.{length};
-ghost use Rattle.numbers.specs.Whole.{putAt};
+ghost use Rattle.numbers.specs.Numbers.{putAt};
 
 mod printing;
 

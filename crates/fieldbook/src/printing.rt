@@ -4,7 +4,7 @@ ghost use mathlib.Core.Bool.{true};
 ghost use mathlib.Core.List.{map};
 ghost use Prim.Native.Nat.{_+_, _*_, _≤_};
 ghost use lib.ListN.{length, take};
-ghost use Rattle.numbers.specs.Whole.{putAt};
+ghost use Rattle.numbers.specs.Numbers.{putAt};
 ghost use Rattle.columns.specs.Texts.{joined};
 ghost use Rattle.fieldbook.specs.Report.{shownT, closedLine, pointLine, openLine, closingLines};
 ghost use Rattle.fieldbook.specs.Fits.{closedFits, pointFits};

@@ -13,7 +13,7 @@ use Rattle.rules.specs.Rules.{close-line, figuresTests}
 use Rattle.book.specs.Calls.{freshBook, closeFigures, figuresRefusal, figuresOf}
 use Rattle.ledger.specs.Plain as Plain
 use Rattle.ledger.specs.Plain.{Reading, freshReading, plainState}
-use Rattle.ledger.proofs.Whole.{Kept, kept-whole}
+use Rattle.ledger.proofs.Kept.{Kept, kept-unbroken}
 
 abbrev pub bookOf : Reading → Book
 bookOf r = bookWith freshBook (plainState r)
@@ -32,7 +32,7 @@ unfolding figuresOf
 figures-held r k =
     let number : figuresRefusal (bookOf r) ≡ cond (not (isClosed (r .stage))) 21 0 =
     ap (λ (v : LineState). firstOf (figuresTests v)) (holds-state r)
-    ∙ (λ i. cond (kept-whole (plainState r) k (close-line (pos 0) (pos 0)) i) 20 (cond (not (isClosed (r .stage))) 21 0)) in
+    ∙ (λ i. cond (kept-unbroken (plainState r) k (close-line (pos 0) (pos 0)) i) 20 (cond (not (isClosed (r .stage))) 21 0)) in
     λ i. closeFigures (number i) (closing (r .opening) (r .end) (sections-holding (freshBook .sections) (plainState r .sections) i))
 
 pub figures-again : (r : Reading) → Kept (plainState r) → r .stage ≡ Closed → figuresOf (bookOf r) ≡ closeFigures 0 (Plain.figuresOf r)

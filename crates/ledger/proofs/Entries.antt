@@ -7,7 +7,7 @@ use Rattle.rules.specs.declared.Book.{Book}
 use Rattle.book.specs.declared.Step.{Step}
 use Rattle.ledger.specs.Plain.{Reading, next, after, refusal, refusals, plainState}
 use Rattle.ledger.specs.Entries.{Entry, asks, refused, entryRefusal, entryNext, entryStep, entryRefusals, afterEntries, callsOf, callNumbers}
-use Rattle.ledger.proofs.Whole.{Kept, next-kept}
+use Rattle.ledger.proofs.Kept.{Kept, next-kept}
 use Rattle.ledger.proofs.Again.{bookOf}
 use Rattle.ledger.proofs.Traced.{number, left}
 

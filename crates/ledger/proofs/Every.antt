@@ -6,7 +6,7 @@ use mathlib.Core.Option.{Option, none, some}
 use lib.Dec.{eqb, eqb→eq}
 use lib.IntN.{ℤ, pos, _*ℤ_, +ℤ-idl}
 use lib.Signed.{_≤ℤ_}
-use Rattle.numbers.specs.Whole.{anyOf}
+use Rattle.numbers.specs.Numbers.{anyOf}
 use Rattle.numbers.proofs.Tests.{by-test, holds, no-true, not-false}
 use Rattle.numbers.proofs.Tables.{met}
 use Rattle.numbers.proofs.Ring.{one-mulℤ}
@@ -26,7 +26,7 @@ use Rattle.ledger.specs.Plain.{Reading, Awaited, freshReading, after, ne
 use Rattle.ledger.specs.Claims.{others, Ends, SoundClosing, SpurHeights, ClosedBy, by-end, by-fin, EveryList, takenOnly, StruckOut}
 use Rattle.rules.proofs.Tables.{fails}
 use Rattle.ledger.proofs.Follows.{recast}
-use Rattle.ledger.proofs.Whole.{open-not-closed, fresh-not-closed, closed-long}
+use Rattle.ledger.proofs.Kept.{open-not-closed, fresh-not-closed, closed-long}
 
 -- ---- a line that was closed refuses every call
 

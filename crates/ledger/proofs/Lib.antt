@@ -3,7 +3,7 @@ pub mod Follows
 pub mod Lowest
 pub mod Drops
 pub mod Runs
-pub mod Whole
+pub mod Kept
 pub mod Every
 pub mod Again
 pub mod Traced

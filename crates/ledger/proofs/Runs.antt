@@ -10,7 +10,7 @@ use native.Mathlib.Omega.{arith}
 use borrow.Author.Tests.{le-leb, leb-false}
 use lib.IntN.{ℤ, pos, natAbs, _+ℤ_, _-ℤ_, _*ℤ_}
 use lib.Signed.{_≤ℤ_, _<ℤ_, ltZ}
-use Rattle.numbers.specs.Whole.{within}
+use Rattle.numbers.specs.Numbers.{within}
 use Rattle.numbers.proofs.Tests.{by-test, and-l, and-r, not-false}
 use Rattle.numbers.proofs.Ring.{ringℤ}
 use Rattle.numbers.proofs.Tables.{first-none}

@@ -8,7 +8,7 @@ use native.Mathlib.Omega.{arith}
 use lib.Dec.{eqb, eqb→eq}
 use lib.ListN.{length, take}
 use lib.IntN.{ℤ, pos, _*ℤ_}
-use Rattle.numbers.specs.Whole.{filled, anyOf}
+use Rattle.numbers.specs.Numbers.{filled, anyOf}
 use Rattle.numbers.proofs.Tests.{by-test, holds, no-true, not-true}
 use Rattle.numbers.proofs.Tables.{first-each, zero-cond}
 use Rattle.numbers.proofs.Filled.{filled-take}
@@ -42,7 +42,7 @@ use Rattle.ledger.specs.Plain.{Reading, freshReading, next, taken, refus
 use Rattle.ledger.specs.Claims.{ClosedOnce, takenOnly}
 use Rattle.ledger.specs.Trace.{Ensures, CloseEnsures, FiguresEnsures, hadOf, Trace, done, call, close, took, took-closing, EveryTrace, EveryListMade, StruckOutOfBook}
 use Rattle.ledger.proofs.Follows.{follows}
-use Rattle.ledger.proofs.Whole.{Kept, next-kept, fresh-kept, calls-kept, same-refusal, no-shorter}
+use Rattle.ledger.proofs.Kept.{Kept, next-kept, fresh-kept, calls-kept, same-refusal, no-shorter}
 use Rattle.ledger.proofs.Every.{every-list, same-figures, closes-line, either, none-given, struck-out, all-taken}
 use Rattle.ledger.proofs.Again.{bookOf, holds-state, fresh-holds, figures-again}
 

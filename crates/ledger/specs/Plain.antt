@@ -7,7 +7,7 @@ use Prim.Native.Nat.{ℕ}
 use lib.ListN.{length}
 use lib.Dec.{eqb}
 use lib.IntN.{ℤ, pos}
-use Rattle.numbers.specs.Whole.{sum, lastOf}
+use Rattle.numbers.specs.Numbers.{sum, lastOf}
 use Rattle.adjust.specs.declared.terms.Class.the-variants.{Fourth, Spur}
 use Rattle.station.specs.declared.Instrument.the-variants.{Ds3}
 use Rattle.station.specs.Station.{Station, stationOf, sights, sightDifference, twiceHeight}

@@ -5,7 +5,7 @@ use mathlib.Core.List.{List, [], _∷_, _++_}
 use Prim.Native.Nat.{ℕ}
 use lib.Dec.{eqb}
 use lib.IntN.{ℤ}
-use Rattle.numbers.specs.Whole.{anyOf}
+use Rattle.numbers.specs.Numbers.{anyOf}
 use Rattle.adjust.specs.Line.{Closing}
 use Rattle.adjust.specs.Call.{numberOf}
 use Rattle.records.specs.declared.Tag.{Tag}

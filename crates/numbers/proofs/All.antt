@@ -2,7 +2,7 @@
 use mathlib.Core.Path.{_≡_, refl, ap, _∙_}
 use mathlib.Core.Bool.{Bool, true, false, not, _||_}
 use mathlib.Core.List.{List, [], _∷_, _++_}
-use Rattle.numbers.specs.Whole.{anyOf}
+use Rattle.numbers.specs.Numbers.{anyOf}
 use Rattle.numbers.proofs.Tests.{or-l, or-r, not-false}
 
 abbrev pub All : {A : Type 0} → (A → Bool) → List A → Type 0

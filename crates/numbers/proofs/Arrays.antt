@@ -7,7 +7,7 @@ use native.Mathlib.Numerals.{add-one}
 use native.Mathlib.Omega.{arith}
 use lib.ListN.{length, getD, set, take, drop, length-append, length-take, length-drop, take-append-drop, drop-of-length-le}
 use lib.Seq.{length-take-le, take-all, take-at, drop-at, take-append-le, drop-append-add, take-take, take-suc, drop-cons, drop-drop, set-split, sets, sets-eq}
-use Rattle.numbers.specs.Whole.{over, putAt, written}
+use Rattle.numbers.specs.Numbers.{over, putAt, written}
 
 module _ {A : Type 0} where
   pub drop-next : (l : List A) (i : ℕ) (z : A) → i < length l → drop i l ≡ getD l i z ∷ drop (i + 1) l

@@ -7,7 +7,7 @@ use lib.IntN.{ℤ, pos, negsuc, ℤ-discrete}
 use mir.Syntax.{w64}
 use mir.Val.{SFits, ofZ, toZ}
 use mir.Facts.{toZ-ofZ}
-use Rattle.numbers.specs.Whole.{eqZ}
+use Rattle.numbers.specs.Numbers.{eqZ}
 use Rattle.numbers.proofs.Tests.{by-test, not-both}
 
 pub eqZ-refl : (x : ℤ) → eqZ x x ≡ true

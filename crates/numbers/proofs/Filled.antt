@@ -5,7 +5,7 @@ use Prim.Native.Nat.{ℕ, _+_, _<_, _≤_}
 use native.Mathlib.Omega.{arith}
 use lib.ListN.{length, getD, set, take, drop, replicate, length-replicate}
 use lib.Seq.{take-append-seam}
-use Rattle.numbers.specs.Whole.{filled}
+use Rattle.numbers.specs.Numbers.{filled}
 use Rattle.numbers.proofs.Arrays.{over-full, written-fits, written-long, written-set, written-next}
 
 module _ {A : Type 0} (a : A) (n : ℕ) (xs : List A) where

@@ -7,7 +7,7 @@ use borrow.Author.Tests.{le-leb}
 use lib.Dec.{ltb, ltb→lt, nltb→le, leb→le}
 use lib.IntN.{ℤ, pos, negsuc, negℤ, natAbs, subℕ, _+ℤ_, _-ℤ_, _*ℤ_}
 use lib.Signed.{_≤ℤ_, leZ}
-use Rattle.numbers.specs.Whole.{within, between}
+use Rattle.numbers.specs.Numbers.{within, between}
 use Rattle.numbers.proofs.Tests.{by-test, holds, and-l, and-r}
 use Rattle.numbers.proofs.Parts.{ints, parts-add, parts-sub, parts-abs, parts-eq, test-le, leZ-true}
 

@@ -1,2 +1,2 @@
-pub mod Whole
+pub mod Numbers
 pub mod Tables

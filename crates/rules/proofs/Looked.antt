@@ -7,7 +7,7 @@ use Prim.Native.Nat.{ℕ, zero, suc, _+_, _%_}
 use lib.Dec.{leb, eqb}
 use lib.ListN.{length, getD}
 use lib.IntN.{ℤ, pos}
-use Rattle.numbers.specs.Whole.{eqZ, lastOf}
+use Rattle.numbers.specs.Numbers.{eqZ, lastOf}
 use Rattle.numbers.specs.Tables.{firstOf}
 use Rattle.station.specs.Station.{stationOf, figuresOf}
 use Rattle.adjust.specs.declared.Section.{Section}

@@ -53,5 +53,5 @@ module _ (v : LineState) (c : Call) where
   pub not-broken : bookRefusal v c ≡ 0 → broken v c ≡ false
   not-broken e = sym (tables v c .twenty) ∙ book-fails e 20
 
-  pub line-whole : bookRefusal v c ≡ 0 → lineBroken (v .line) (length (v .sections)) ≡ false
-  line-whole e = or-r (isClosing c && misfit (v .sections)) (lineBroken (v .line) (length (v .sections))) (not-broken e)
+  pub line-unbroken : bookRefusal v c ≡ 0 → lineBroken (v .line) (length (v .sections)) ≡ false
+  line-unbroken e = or-r (isClosing c && misfit (v .sections)) (lineBroken (v .line) (length (v .sections))) (not-broken e)

@@ -8,7 +8,7 @@ use lib.Dec.{leb, ltb, eqb, eqb·suc-zero, leb→le, nleb→lt}
 use lib.ListN.{length}
 use lib.IntN.{pos}
 use borrow.Author.Tests.{lt-ltb}
-use Rattle.numbers.specs.Whole.{within, between}
+use Rattle.numbers.specs.Numbers.{within, between}
 use Rattle.numbers.proofs.Tests.{holds, fails, no-true, and-l, and-r, or-l, or-r, not-false}
 use Rattle.numbers.proofs.Sizes.{between-size, within-size}
 use Rattle.adjust.specs.declared.Sections.{Sections}

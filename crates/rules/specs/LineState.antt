@@ -4,7 +4,7 @@ use mathlib.Core.List.{List, [], _∷_, map}
 use Prim.Native.Nat.{ℕ, _+_}
 use lib.Dec.{leb, eqb}
 use lib.IntN.{ℤ, pos, _+ℤ_, _-ℤ_, _*ℤ_}
-use Rattle.numbers.specs.Whole.{within, between, eqZ, anyOf, lastOf}
+use Rattle.numbers.specs.Numbers.{within, between, eqZ, anyOf, lastOf}
 use Rattle.station.specs.declared.Figures.{Figures}
 use Rattle.adjust.specs.declared.Section.{Section}
 use Rattle.adjust.specs.Sections.{sectionsOf, holding, heightInRange}

@@ -7,7 +7,7 @@ use lib.ListN.{length}
 use lib.Dec.{leb, eqb}
 use lib.IntN.{ℤ, pos}
 use lib.Signed.{leZ, ltZ}
-use Rattle.numbers.specs.Whole.{between, eqZ}
+use Rattle.numbers.specs.Numbers.{between, eqZ}
 use Rattle.numbers.specs.Tables.{firstOf}
 use Rattle.roots.specs.Limit.{isWithin}
 use Rattle.station.specs.declared.Instrument.{Instrument}

@@ -3,7 +3,7 @@ ghost use mathlib.Core.Path.{_≡_};
 ghost use mathlib.Core.List.{map};
 ghost use Prim.Native.Nat.{_≤_};
 ghost use lib.ListN.{length};
-ghost use Rattle.numbers.specs.Whole.{lastOf};
+ghost use Rattle.numbers.specs.Numbers.{lastOf};
 ghost use Rattle.adjust.specs.declared.Section.{Section};
 ghost use Rattle.adjust.specs.Sections.{sectionsOf};
 ghost use Rattle.rules.specs.LineState.{isFresh, isOpen, isClosed, isReturn};

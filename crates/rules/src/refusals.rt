@@ -2,7 +2,7 @@
 ghost use mathlib.Core.Path.{_≡_};
 ghost use mathlib.Core.Bool.{false, not, cond};
 ghost use Prim.Native.Nat.{_≤_};
-ghost use Rattle.numbers.specs.Whole.{eqZ};
+ghost use Rattle.numbers.specs.Numbers.{eqZ};
 ghost use Rattle.numbers.specs.Tables.{firstOf};
 ghost use Rattle.rules.specs.LineState.{isShut, outwardOrReturn, bothWays};
 ghost use Rattle.rules.specs.code.Seen.{numbersIn, beside};

@@ -8,7 +8,7 @@ use lib.Dec.{eqb}
 use lib.ListN.{length, getD, set, drop}
 use lib.Seq.{drop-drop, sets}
 use lib.IntN.{ℤ}
-use Rattle.numbers.specs.Whole.{written}
+use Rattle.numbers.specs.Numbers.{written}
 use Rattle.numbers.proofs.Arrays.{drop-next, written-none}
 use Rattle.adjust.specs.Sections.{holding}
 use Rattle.adjust.proofs.Lists.{from-length}
@@ -18,7 +18,7 @@ use Rattle.book.specs.declared.CloseAnswer.the-variants.{Closed, NotClosed}
 use Rattle.book.specs.Calls.{closingOf, figuresRefusal, figuresOf}
 use Rattle.ledger.specs.Plain.{freshReading, plainState}
 use Rattle.ledger.specs.Entries.{Entry, afterEntries}
-use Rattle.ledger.proofs.Whole.{Kept, fresh-kept}
+use Rattle.ledger.proofs.Kept.{Kept, fresh-kept}
 use Rattle.ledger.proofs.Again.{bookOf}
 use Rattle.ledger.proofs.Entries.{entries-kept}
 use Rattle.runner.specs.Calls.{firstEntry, firstEntries}

@@ -8,7 +8,7 @@ use Rattle.book.specs.declared.ClosedFigures.{ClosedFigures}
 use Rattle.book.specs.Calls.{closeFigures, figuresOf}
 use Rattle.ledger.specs.Plain.{Reading, freshReading, after}
 use Rattle.ledger.specs.Entries.{callsOf}
-use Rattle.ledger.proofs.Whole.{calls-kept}
+use Rattle.ledger.proofs.Kept.{calls-kept}
 use Rattle.ledger.proofs.Every.{every-list, same-figures}
 use Rattle.ledger.proofs.Again.{bookOf, figures-again}
 use Rattle.ledger.proofs.Entries.{reading-calls, numbers-calls}

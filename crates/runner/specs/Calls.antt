@@ -7,7 +7,7 @@ use Prim.Native.Nat.{ℕ, zero, suc, _+_, _/_}
 use lib.Dec.{leb}
 use lib.ListN.{length, getD, take, drop}
 use lib.IntN.{ℤ, pos, negsuc}
-use Rattle.numbers.specs.Whole.{eqZ, written}
+use Rattle.numbers.specs.Numbers.{eqZ, written}
 use Rattle.records.specs.declared.Kind.{Kind}
 use Rattle.records.specs.declared.Kind.the-variants.{Record, Refused}
 use Rattle.records.specs.declared.Tag.the-variants.{Lin, Sta, Run, Drr, Drs, End, Spr, Fin, Ang}

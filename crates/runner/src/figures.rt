@@ -2,7 +2,7 @@
 ghost use mathlib.Core.Path.{_≡_};
 ghost use Prim.Native.Nat.{_≤_};
 ghost use lib.Seq.{sets};
-ghost use Rattle.numbers.specs.Whole.{written};
+ghost use Rattle.numbers.specs.Numbers.{written};
 ghost use Rattle.runner.specs.Figures.{summaryOf, headFigures, pointFigures, bookFigures};
 use adjust::Point;
 use adjust::Summary;

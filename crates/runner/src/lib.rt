@@ -2,7 +2,7 @@
 ghost use mathlib.Core.Path.{_≡_};
 ghost use Prim.Native.Nat.{_+_, _/_};
 ghost use lib.ListN.{length, set};
-ghost use Rattle.numbers.specs.Whole.{written};
+ghost use Rattle.numbers.specs.Numbers.{written};
 ghost use Rattle.rules.specs.LineState.{bookWith};
 ghost use Rattle.book.specs.Calls.{freshBook};
 ghost use Rattle.ledger.specs.Plain.{freshReading, plainState};

@@ -5,7 +5,7 @@ use mathlib.Core.List.{List}
 use Prim.Native.Nat.{ℕ, _≤_}
 use native.Mathlib.Omega.{arith}
 use lib.IntN.{ℤ, pos, natAbs, _+ℤ_, _-ℤ_}
-use Rattle.numbers.specs.Whole.{between, eqZ}
+use Rattle.numbers.specs.Numbers.{between, eqZ}
 use Rattle.numbers.proofs.Tests.{and-l, and-r, not-false}
 use Rattle.numbers.proofs.Equal.{eqZ-eq}
 use Rattle.numbers.proofs.Sizes.{between-size, abs-add, abs-sub}

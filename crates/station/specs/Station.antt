@@ -7,7 +7,7 @@ use lib.ListN.{getD}
 use lib.Dec.{eqb}
 use lib.IntN.{ℤ, pos, _+ℤ_, _-ℤ_}
 use lib.Signed.{ltZ}
-use Rattle.numbers.specs.Whole.{within, between, eqZ}
+use Rattle.numbers.specs.Numbers.{within, between, eqZ}
 use Rattle.numbers.specs.Tables.{firstOf}
 use Rattle.station.specs.declared.Order.{Order}
 use Rattle.station.specs.declared.Order.the-variants.{Third, Fourth}

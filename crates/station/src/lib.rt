@@ -5,7 +5,7 @@ ghost use mathlib.Core.Bool.{true, cond, _&&_};
 ghost use Prim.Native.Nat.{_+_, _≤_};
 ghost use lib.Dec.{leb};
 ghost use lib.IntN.{pos, natAbs, _+ℤ_, _-ℤ_};
-ghost use Rattle.numbers.specs.Whole.{within};
+ghost use Rattle.numbers.specs.Numbers.{within};
 ghost use Rattle.numbers.specs.Tables.{firstOf};
 ghost use Rattle.station.specs.Station.{staffOf, stationOf, sightingOf, twiceHeight, figuresOf, readingsInRange, threadsInOrder, constantsPaired, readingRefusal, Reads, sightLimit, limitsOf, limitTests};
 use roots::limits::magnitude;

@@ -7,7 +7,7 @@ use native.Mathlib.Omega.{arith}
 use borrow.Author.Tests.{lt-ltb, le-ltb, ltb-true, ltb-false}
 use lib.Dec.{eqb}
 use lib.ListN.{length, drop, replicate, drop-of-length-le}
-use Rattle.numbers.specs.Whole.{filled}
+use Rattle.numbers.specs.Numbers.{filled}
 use Rattle.numbers.proofs.Tests.{by-test, is-true, is-false}
 use Rattle.numbers.proofs.Arrays.{written-none}
 use Rattle.columns.specs.Decimals.{same}

@@ -8,12 +8,12 @@ use native.Mathlib.Omega.{arith}
 use lib.ListN.{length, set, drop, replicate, length-append, length-drop, length-map, length-replicate}
 use lib.IntN.{ℤ, pos}
 use lib.Seq.{set-out}
-use Rattle.numbers.specs.Whole.{over, filled}
+use Rattle.numbers.specs.Numbers.{over, filled}
 use Rattle.numbers.proofs.Arrays.{written-past}
 use Rattle.numbers.proofs.Filled.{filled-length, filled-set}
 use Rattle.adjust.specs.declared.Section.{Section}
 use Rattle.adjust.specs.Sections.{holding}
-use Rattle.adjust.proofs.Holding.{Whole}
+use Rattle.adjust.proofs.Holding.{Places}
 use Rattle.columns.specs.Texts.{lines}
 use Rattle.columns.proofs.Texts.{lines-next, lines-end}
 use Rattle.rules.specs.declared.Book.{Book}
@@ -21,7 +21,7 @@ use Rattle.book.specs.declared.Step.{Step}
 use Rattle.book.specs.Calls.{freshBook}
 use Rattle.ledger.specs.Plain.{Reading, freshReading, plainState}
 use Rattle.ledger.specs.Entries.{Entry, entryRefusal, entryNext, entryStep}
-use Rattle.ledger.proofs.Whole.{Kept, fresh-kept}
+use Rattle.ledger.proofs.Kept.{Kept, fresh-kept}
 use Rattle.ledger.proofs.Again.{bookOf, fresh-holds}
 use Rattle.ledger.proofs.Entries.{entry-kept, entry-step}
 use Rattle.textbook.specs.declared.text.State.{State}
@@ -43,9 +43,9 @@ over-long : (xs ys : List ℤ) → length xs ≤ length ys → length (over xs y
 over-long xs ys h = simp (length-append, length-drop) (omega arith)
 
 -- the arrays of a book that holds a reading have their places
-whole : (r : Reading) → Kept (plainState r) → Whole (bookOf r .sections)
+has-places : (r : Reading) → Kept (plainState r) → Places (bookOf r .sections)
 unfolding holding
-whole r k =
+has-places r k =
     record {
       numbers = long (λ (x : Section). x .number);
       heights = long (λ (x : Section). x .height);
@@ -117,8 +117,8 @@ module _ (t : List ℕ) where
           lines-next t (84 * suc (length ns)) (omega (arith, x .line))
           ∙ ap (λ (m : ℕ). lineAt t (suc (suc (length ns))) ∷ lines (drop m t)) (next-piece (length ns))
 
-  pub reached-whole : {b : Book} {places : List ℕ} {k : ℕ} → Reached b places k → Whole (b .sections)
-  reached-whole x = subst (λ (b : Book). Whole (b .sections)) (sym (x .holds)) (whole (x .reading) (x .kept))
+  pub reached-places : {b : Book} {places : List ℕ} {k : ℕ} → Reached b places k → Places (b .sections)
+  reached-places x = subst (λ (b : Book). Places (b .sections)) (sym (x .holds)) (has-places (x .reading) (x .kept))
 
   pub reached-long : {b : Book} {places : List ℕ} {k : ℕ} → Reached b places k → length places ≡ 778
   reached-long x = ap length (x .filled-in) ∙ filled-length 0 778 (0 ∷ 0 ∷ x .numbers)

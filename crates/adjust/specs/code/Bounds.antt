@@ -4,7 +4,7 @@ use mathlib.Core.Bool.{false, not}
 use Prim.Native.Nat.{ℕ, _*_, _≤_}
 use lib.IntN.{ℤ, pos, natAbs}
 use lib.Signed.{_≤ℤ_}
-use Rattle.numbers.specs.Whole.{anyOf}
+use Rattle.numbers.specs.Numbers.{anyOf}
 use Rattle.adjust.specs.declared.Section.{Section}
 use Rattle.adjust.specs.declared.Sections.{Sections}
 use Rattle.adjust.specs.declared.Totals.{Totals}

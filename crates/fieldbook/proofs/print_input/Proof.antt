@@ -5,7 +5,7 @@ use Prim.Native.Nat.{ℕ, _≤_, _<_, min}
 use native.Mathlib.Nat.{zero-add}
 use native.Mathlib.Omega.{arith}
 use lib.ListN.{length, take, length-take}
-use Rattle.numbers.specs.Whole.{putAt}
+use Rattle.numbers.specs.Numbers.{putAt}
 use Rattle.numbers.proofs.Arrays.{put-none}
 use Rattle.textbook.specs.Text.{mostText}
 use Rattle.fieldbook.specs.declared.Reduced.{Reduced}

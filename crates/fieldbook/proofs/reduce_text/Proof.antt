@@ -4,7 +4,7 @@ use mathlib.Core.List.{List}
 use Prim.Native.Nat.{ℕ, _≤_, _<_}
 use native.Mathlib.Omega.{arith}
 use lib.ListN.{length}
-use Rattle.numbers.specs.Whole.{putAt}
+use Rattle.numbers.specs.Numbers.{putAt}
 use Rattle.columns.specs.Texts.{lines, joined}
 use Rattle.textbook.specs.declared.reader.TextRead.{TextRead}
 use Rattle.textbook.specs.declared.text.State.{State}

@@ -3,7 +3,7 @@ use mathlib.Core.Bool.{Bool, not, _&&_}
 use mathlib.Core.List.{List, []}
 use Prim.Native.Nat.{ℕ}
 use lib.IntN.{ℤ}
-use Rattle.numbers.specs.Whole.{eqZ, anyOf}
+use Rattle.numbers.specs.Numbers.{eqZ, anyOf}
 use Rattle.adjust.specs.declared.Section.{Section}
 use Rattle.adjust.specs.declared.Sections.{Sections}
 use Rattle.adjust.specs.Sections.{sectionsOf}

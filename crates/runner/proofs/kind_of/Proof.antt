@@ -5,7 +5,7 @@ use Prim.Native.Nat.{ℕ}
 use lib.IntN.{pos}
 use mir.Syntax.{w64}
 use mir.Val.{ofZ, toZ}
-use Rattle.numbers.specs.Whole.{eqZ}
+use Rattle.numbers.specs.Numbers.{eqZ}
 use Rattle.numbers.proofs.Machine.{stored-id}
 use Rattle.numbers.proofs.Equal.{eqZ-ne}
 use Rattle.runner.specs.Calls.{kindOf}

@@ -1,7 +1,7 @@
 -- `level_run` meets its contract.
 use mathlib.Core.Path.{sym, ap, _∙_}
 use borrow.Author.Needs.{needs}
-use Rattle.numbers.specs.Whole.{written}
+use Rattle.numbers.specs.Numbers.{written}
 use Rattle.rules.specs.declared.Book.{Book}
 use Rattle.runner.specs.Calls.{entriesOf}
 use Rattle.runner.specs.Figures.{bookFigures}

@@ -11,7 +11,7 @@ use lib.Seq.{take-all, sets, length-sets}
 use Rattle.book.specs.declared.Step.{Step}
 use Rattle.ledger.specs.Plain.{Reading, freshReading, plainState}
 use Rattle.ledger.specs.Entries.{Entry, entryRefusal, entryNext, entryStep, entryRefusals, afterEntries}
-use Rattle.ledger.proofs.Whole.{Kept, fresh-kept}
+use Rattle.ledger.proofs.Kept.{Kept, fresh-kept}
 use Rattle.ledger.proofs.Again.{bookOf, fresh-holds}
 use Rattle.ledger.proofs.Entries.{entry-kept, entry-step}
 use Rattle.runner.specs.Calls.{firstEntry, firstEntries, entriesOf}

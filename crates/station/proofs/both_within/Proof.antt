@@ -1,7 +1,7 @@
 -- `both_within` meets its contract, by that of `is_within`.
 use mathlib.Core.Path.{_∙_}
 use mathlib.Core.Bool.{_&&_}
-use Rattle.numbers.specs.Whole.{within}
+use Rattle.numbers.specs.Numbers.{within}
 use Rattle.numbers.proofs.Machine.{stored-id}
 use borrow.Author.Needs.{needs}
 use Rattle.station.proofs.both_within.Statement.{statement}

@@ -2,7 +2,7 @@
 use mathlib.Core.Path.{ap, _∙_}
 use mathlib.Core.Bool.{not, cond, _&&_}
 use lib.IntN.{_+ℤ_, _-ℤ_}
-use Rattle.numbers.specs.Whole.{within}
+use Rattle.numbers.specs.Numbers.{within}
 use Rattle.numbers.specs.Tables.{firstOf}
 use Rattle.numbers.proofs.Machine.{stored-id}
 use borrow.Author.Needs.{needs}

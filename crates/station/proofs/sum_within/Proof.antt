@@ -6,7 +6,7 @@ use lib.IntN.{natAbs, _+ℤ_}
 use borrow.Author.Needs.{needs}
 use mir.Syntax.{w64}
 use mir.Val.{SFits}
-use Rattle.numbers.specs.Whole.{within}
+use Rattle.numbers.specs.Numbers.{within}
 use Rattle.numbers.proofs.Machine.{stored-id, stored-both, stored-as, fits-as, add-as}
 use Rattle.station.proofs.Signs.{fit-fits, by-signs}
 use Rattle.station.proofs.sum_within.Statement.{statement}

@@ -5,7 +5,7 @@ use mathlib.Core.List.{map}
 use lib.IntN.{pos}
 use mir.Syntax.{w64}
 use mir.Val.{SFits}
-use Rattle.numbers.specs.Whole.{sum}
+use Rattle.numbers.specs.Numbers.{sum}
 use Rattle.numbers.proofs.Machine.{stored-id}
 use Rattle.adjust.specs.Sections.{sectionsOf}
 use Rattle.adjust.specs.Line.{accidental}

@@ -5,7 +5,7 @@ use mathlib.Core.List.{List, map}
 use Prim.Native.Nat.{ℕ, _+_, _-_, _*_, _≤_, _<_}
 use native.Mathlib.Omega.{arith}
 use lib.IntN.{ℤ, pos, natAbs, _+ℤ_, +ℤ-assoc, +ℤ-idl, +ℤ-idr}
-use Rattle.numbers.specs.Whole.{within, sum}
+use Rattle.numbers.specs.Numbers.{within, sum}
 use Rattle.numbers.proofs.Tests.{and-l, and-r}
 use Rattle.numbers.proofs.All.{All, all-head, all-tail}
 use Rattle.numbers.proofs.Sizes.{abs-add, within-size}

@@ -6,7 +6,7 @@ use native.Mathlib.Omega.{arith}
 use lib.ListN.{length, take, drop}
 use lib.IntN.{ℤ, pos}
 use borrow.Author.Needs.{needs}
-use Rattle.numbers.specs.Whole.{filled, over}
+use Rattle.numbers.specs.Numbers.{filled, over}
 use Rattle.numbers.proofs.Filled.{filled-take}
 use Rattle.numbers.proofs.Tables.{zero-cond, nonzero-cond}
 use Rattle.numbers.proofs.Machine.{stored, stored-both, holds-stored}

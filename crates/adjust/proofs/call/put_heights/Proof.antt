@@ -10,7 +10,7 @@ use lib.Seq.{getD-take, getD-drop}
 use lib.IntN.{ℤ}
 use mir.Syntax.{w64}
 use mir.Val.{SFits}
-use Rattle.numbers.specs.Whole.{over, putAt}
+use Rattle.numbers.specs.Numbers.{over, putAt}
 use Rattle.numbers.proofs.Arrays.{drop-next, put-cons, put-all}
 use Rattle.numbers.proofs.Machine.{stored-id}
 use Rattle.adjust.specs.declared.Point.{Point}

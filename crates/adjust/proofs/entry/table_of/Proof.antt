@@ -9,7 +9,7 @@ use lib.Seq.{take-all}
 use lib.IntN.{ℤ, pos}
 use mir.Syntax.{w64}
 use mir.Val.{SFits}
-use Rattle.numbers.specs.Whole.{filled}
+use Rattle.numbers.specs.Numbers.{filled}
 use Rattle.numbers.proofs.Filled.{filled-next, filled-full}
 use Rattle.numbers.proofs.Machine.{stored-id}
 use Rattle.adjust.specs.declared.entry.Leg.{Leg}

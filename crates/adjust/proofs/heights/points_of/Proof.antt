@@ -8,7 +8,7 @@ use lib.IntN.{ℤ, pos, natAbs, _+ℤ_, _*ℤ_}
 use borrow.Author.Needs.{needs}
 use mir.Syntax.{w64}
 use mir.Val.{toZ}
-use Rattle.numbers.specs.Whole.{over, putAt, filled}
+use Rattle.numbers.specs.Numbers.{over, putAt, filled}
 use Rattle.numbers.proofs.Ring.{one-mulℤ}
 use Rattle.numbers.proofs.Sizes.{abs-add}
 use Rattle.numbers.proofs.Arrays.{put-cons, put-all, written-fits}

@@ -4,7 +4,7 @@ use mathlib.Core.Bool.{Bool, not, _&&_}
 use lib.Dec.{leb}
 use lib.IntN.{pos, natAbs}
 use borrow.Author.Needs.{needs}
-use Rattle.numbers.specs.Whole.{between}
+use Rattle.numbers.specs.Numbers.{between}
 use Rattle.numbers.proofs.Machine.{stored-id}
 use Rattle.adjust.specs.declared.Section.{Section}
 use Rattle.adjust.specs.Sizes.{mostQ, mostR, mostD}

@@ -1,7 +1,7 @@
 -- `collimation` meets its contract: the change that it makes, made.
 use mathlib.Core.Path.{_∙_, ap}
 use Prim.Native.Nat.{ℕ}
-use Rattle.adjust.proofs.Holding.{Whole}
+use Rattle.adjust.proofs.Holding.{Places}
 use Rattle.rules.specs.Rules.{Call, collimation}
 use Rattle.rules.proofs.Looked.{collimation-alike}
 use Rattle.book.specs.code.Changes.{changeBy}
@@ -19,8 +19,8 @@ step-of-requires c κs = search needs
 outcome-of-requires : tie.Need-outcome-of-requires
 outcome-of-requires c κs = search needs
 
-whole : (s : tie.Start) → Whole (s .args .b .sections)
-whole s = search needs
+has-places : (s : tie.Start) → Places (s .args .b .sections)
+has-places s = search needs
 
 returns : tie.Need-returns
 returns c =
@@ -30,7 +30,7 @@ returns c =
     let b = s .args .b in
     let asked : Call = collimation (s .args .x) in
     step-answers b (plain asked)
-    (o .step-of .ensures ∙ step-made b (whole s) asked (d .collimation-change .ensures ∙ ap (λ (n : ℕ). changeBy n (b .line) asked) (collimation-alike b (s .args .x))))
+    (o .step-of .ensures ∙ step-made b (has-places s) asked (d .collimation-change .ensures ∙ ap (λ (n : ℕ). changeBy n (b .line) asked) (collimation-alike b (s .args .x))))
     (c .outcome-of .ensures)
 
 pub collimation-spec : {M : Type 1} → statement M

@@ -2,7 +2,7 @@
 use mathlib.Core.Path.{_∙_, ap}
 use Prim.Native.Nat.{ℕ}
 use Rattle.numbers.proofs.Machine.{stored}
-use Rattle.adjust.proofs.Holding.{Whole}
+use Rattle.adjust.proofs.Holding.{Places}
 use Rattle.rules.specs.Rules.{Call, station}
 use Rattle.rules.proofs.Looked.{station-alike}
 use Rattle.book.specs.code.Changes.{changeBy}
@@ -20,8 +20,8 @@ step-of-requires c κs = search needs
 outcome-of-requires : tie.Need-outcome-of-requires
 outcome-of-requires c κs = search needs
 
-whole : (s : tie.Start) → Whole (s .args .t1 .sections)
-whole s = search needs
+has-places : (s : tie.Start) → Places (s .args .t1 .sections)
+has-places s = search needs
 
 returns : tie.Need-returns
 returns c =
@@ -31,7 +31,7 @@ returns c =
     let b = s .args .t1 in
     let asked : Call = station (stored (s .args .kb)) (stored (s .args .kf)) (s .args .readings) in
     step-answers b (station-as (s .args .readings) (s .fits .kb) (s .fits .kf))
-    (o .step-of .ensures ∙ step-made b (whole s) asked (d .station-change .ensures ∙ ap (λ (n : ℕ). changeBy n (b .line) asked) (station-alike b _ _ _)))
+    (o .step-of .ensures ∙ step-made b (has-places s) asked (d .station-change .ensures ∙ ap (λ (n : ℕ). changeBy n (b .line) asked) (station-alike b _ _ _)))
     (c .outcome-of .ensures)
 
 pub station-spec : {M : Type 1} → statement M

@@ -4,7 +4,7 @@ use Rattle.numbers.proofs.Machine.{stored}
 use Rattle.rules.specs.LineState.{LineState}
 use Rattle.rules.specs.Rules.{end-run}
 use Rattle.rules.specs.code.Seen.{numbersIn, numbered}
-use Rattle.rules.proofs.Tables.{line-whole}
+use Rattle.rules.proofs.Tables.{line-unbroken}
 use Rattle.rules.proofs.Unbroken.{unbroken, small-runs}
 use Rattle.rules.proofs.Looked.{counted-broken}
 use Rattle.book.proofs.Joined.{end-as, change-refused, change-taken}
@@ -36,7 +36,7 @@ run-ended-requires c κs =
     let a = s .args in
     let taken = sym (r .end-refusal .ensures) ∙ c .if1 .left in
     small-runs (a .line) (a .count)
-    (unbroken (a .line) (a .count) (sym (counted-broken (a .line) (numbered (a .count) (a .numbers .now))) ∙ line-whole (held s) (end-run (stored (a .number))) taken))
+    (unbroken (a .line) (a .count) (sym (counted-broken (a .line) (numbered (a .count) (a .numbers .now))) ∙ line-unbroken (held s) (end-run (stored (a .number))) taken))
 
 returns-2 : tie.Need-returns-2
 returns-2 c =

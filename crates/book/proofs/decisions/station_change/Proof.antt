@@ -11,7 +11,7 @@ use Rattle.station.proofs.Sizes.{read, figures-small}
 use Rattle.rules.specs.LineState.{LineState, withStation}
 use Rattle.rules.specs.code.Seen.{numbered, numbersIn}
 use Rattle.rules.specs.Rules.{Call, station, bookStationTests, bookRefusal, withRuns}
-use Rattle.rules.proofs.Tables.{line-whole}
+use Rattle.rules.proofs.Tables.{line-unbroken}
 use Rattle.rules.proofs.Parts.{input-refused, later-refused}
 use Rattle.rules.proofs.Unbroken.{unbroken}
 use Rattle.rules.proofs.Looked.{counted-broken}
@@ -100,7 +100,7 @@ with-station-requires c κs =
     let s = k .before .before .before in
     let a = s .args in (
       unbroken (a .line) (a .count)
-          (sym (counted-broken (a .line) (numbered (a .count) (a .numbers .now))) ∙ line-whole (held s) (asked s) (sym (number r) ∙ c .if1 .left)) .present,
+          (sym (counted-broken (a .line) (numbered (a .count) (a .numbers .now))) ∙ line-unbroken (held s) (asked s) (sym (number r) ∙ c .if1 .left)) .present,
       subst Small (sym (taken k .1)) (figures-small (read (stored (s .args .kb)) (stored (s .args .kf)) (s .args .readings) (taken k .0))),
     )
 

@@ -9,7 +9,7 @@ use lib.IntN.{ℤ}
 use lib.ListN.{length, take, drop, set, length-set, length-take}
 use mir.Syntax.{w64}
 use mir.Val.{SFits}
-use Rattle.numbers.specs.Whole.{putAt}
+use Rattle.numbers.specs.Numbers.{putAt}
 use Rattle.numbers.proofs.Machine.{stored-id}
 use Rattle.numbers.proofs.Arrays.{put-cons, put-all}
 use Rattle.columns.specs.declared.parser.Field.the-variants.{Number}

@@ -4,7 +4,7 @@ use Prim.Native.Nat.{ℕ, _+_, _-_, _≤_}
 use native.Mathlib.Nat.{add-zero}
 use native.Mathlib.Omega.{arith}
 use lib.ListN.{length, drop, length-set, drop-of-length-le}
-use Rattle.numbers.specs.Whole.{putAt}
+use Rattle.numbers.specs.Numbers.{putAt}
 use Rattle.numbers.proofs.Arrays.{put-next, put-all}
 use Rattle.columns.proofs.writer.put_bytes.Statement.{statement}
 use Rattle.columns.proofs.writer.put_bytes.Tie as tie

@@ -6,7 +6,7 @@ use native.Mathlib.Omega.{arith}
 use borrow.Author.Needs.{needs}
 use lib.IntN.{pos, natAbs}
 use lib.ListN.{length, set}
-use Rattle.numbers.specs.Whole.{putAt}
+use Rattle.numbers.specs.Numbers.{putAt}
 use Rattle.numbers.proofs.Machine.{stored-id, literal-as, branch-lt, branch-ge}
 use Rattle.numbers.proofs.Arrays.{put-head}
 use Rattle.columns.specs.Decimals.{digits, decimal}

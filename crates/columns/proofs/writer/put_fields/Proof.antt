@@ -7,7 +7,7 @@ use native.Mathlib.Nat.{sub-zero}
 use native.Mathlib.Omega.{arith}
 use lib.IntN.{ℤ, pos}
 use lib.ListN.{length, drop, getD, drop-of-length-le}
-use Rattle.numbers.specs.Whole.{putAt}
+use Rattle.numbers.specs.Numbers.{putAt}
 use Rattle.numbers.proofs.Machine.{stored, stored-id}
 use Rattle.numbers.proofs.Arrays.{put-after, put-all}
 use Rattle.columns.specs.Decimals.{fitsIn, pad}

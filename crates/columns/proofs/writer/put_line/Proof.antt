@@ -8,7 +8,7 @@ use borrow.Author.Tests.{not-true, not-false, le-leb, lt-leb}
 use borrow.Author.Needs.{needs}
 use lib.Dec.{leb}
 use lib.ListN.{length}
-use Rattle.numbers.specs.Whole.{putAt}
+use Rattle.numbers.specs.Numbers.{putAt}
 use Rattle.columns.specs.Buffers.{placed}
 use Rattle.columns.specs.Lines.{lineFits, tagLine}
 use Rattle.columns.proofs.Put.{placed-room, placed-none, placed-empty}

@@ -7,7 +7,7 @@ use borrow.Author.Tests.{leb-true}
 use borrow.Author.Needs.{needs}
 use lib.IntN.{ℤ}
 use lib.ListN.{length}
-use Rattle.numbers.specs.Whole.{putAt}
+use Rattle.numbers.specs.Numbers.{putAt}
 use Rattle.numbers.proofs.Machine.{stored-id}
 use Rattle.numbers.proofs.Arrays.{put-before}
 use Rattle.columns.specs.Decimals.{blanks, decimal, fitsIn, pad}

@@ -5,7 +5,7 @@ use Prim.Native.Nat.{ℕ, _+_, _-_, _≤_}
 use native.Mathlib.Omega.{arith}
 use borrow.Author.Needs.{needs}
 use lib.ListN.{length, drop, length-take, length-drop}
-use Rattle.numbers.specs.Whole.{putAt}
+use Rattle.numbers.specs.Numbers.{putAt}
 use Rattle.columns.specs.Decimals.{blanks}
 use Rattle.columns.specs.Lines.{lineEnd, fields}
 use Rattle.columns.proofs.Lines.{FitsLine, fits-line, columns-range, end-part, line-built}

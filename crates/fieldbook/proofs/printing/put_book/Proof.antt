@@ -4,7 +4,7 @@ use mathlib.Core.List.{List}
 use Prim.Native.Nat.{ℕ, _+_, _≤_}
 use native.Mathlib.Omega.{arith}
 use lib.ListN.{length}
-use Rattle.numbers.specs.Whole.{putAt}
+use Rattle.numbers.specs.Numbers.{putAt}
 use Rattle.adjust.specs.declared.Point.{Point}
 use Rattle.columns.specs.Texts.{joined}
 use Rattle.book.specs.declared.CloseAnswer.{CloseAnswer}

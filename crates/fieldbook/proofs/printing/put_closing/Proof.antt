@@ -4,7 +4,7 @@ use mathlib.Core.List.{List, map}
 use Prim.Native.Nat.{ℕ, _+_}
 use native.Mathlib.Omega.{arith}
 use lib.ListN.{length, take}
-use Rattle.numbers.specs.Whole.{putAt}
+use Rattle.numbers.specs.Numbers.{putAt}
 use Rattle.columns.specs.Texts.{joined}
 use Rattle.fieldbook.specs.Report.{pointLine}
 use Rattle.fieldbook.proofs.Written.{closing-long, closing-put, closed-put-long}

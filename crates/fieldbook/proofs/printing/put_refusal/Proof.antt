@@ -8,7 +8,7 @@ use lib.ListN.{length}
 use Rattle.columns.specs.Buffers.{placed}
 use Rattle.columns.specs.Lines.{tagLine}
 use Rattle.columns.proofs.Lines.{length-line}
-use Rattle.numbers.specs.Whole.{putAt}
+use Rattle.numbers.specs.Numbers.{putAt}
 use Rattle.numbers.proofs.Machine.{cast-nat}
 use Rattle.numbers.proofs.Arrays.{put-none}
 use Rattle.fieldbook.proofs.Written.{line-put, refusal-none, refusal-some, refusal-fits}

@@ -7,7 +7,7 @@ use lib.Dec.{leb}
 use lib.IntN.{pos, natAbs}
 use mir.Syntax.{w64}
 use mir.Val.{SFits}
-use Rattle.numbers.specs.Whole.{within, between}
+use Rattle.numbers.specs.Numbers.{within, between}
 use Rattle.numbers.proofs.Machine.{stored-id, cast-nat}
 use Rattle.rules.specs.LineState.{mostG, mostS, mostDifference}
 use borrow.Author.Needs.{needs}

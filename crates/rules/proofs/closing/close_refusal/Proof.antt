@@ -72,8 +72,8 @@ close-state-requires c κs =
     let e = k .before .before in
     let s = e .before .before in
     let b = book s in
-    let whole = or-r (k .before .misfits .result) (k .look .result .broken) (c .if2 .left) in (
-      (ap (λ (z : ℤ). broken (stateOf b) (close-line (stored (s .args .number)) z)) (stored-id (s .fits .end)) ∙ tested d (c .if2 .left), saw-shut (b .line) (b .sections .count) (b .sections .numbers) (k .look .ensures) whole ∙ shut-alike b),
+    let is-unbroken = or-r (k .before .misfits .result) (k .look .result .broken) (c .if2 .left) in (
+      (ap (λ (z : ℤ). broken (stateOf b) (close-line (stored (s .args .number)) z)) (stored-id (s .fits .end)) ∙ tested d (c .if2 .left), saw-shut (b .line) (b .sections .count) (b .sections .numbers) (k .look .ensures) is-unbroken ∙ shut-alike b),
       ap heightInRange (stored-id (s .fits .end)) ∙ not-false (heightInRange (s .args .end)) (failed (inputTests (call s)) refl (taken e) 5),
     )
 

@@ -69,8 +69,8 @@ closing-state-requires c κs =
     let l = c .before .before in
     let k = l .before in
     let s = k .before .before .before .before in
-    let whole = or-r (k .before .misfits .result) (k .line-broken .result) (l .if2 .left) in
-    unbroken (s .args .line) (s .args .count) (sym (k .line-broken .ensures) ∙ whole) .few
+    let is-unbroken = or-r (k .before .misfits .result) (k .line-broken .result) (l .if2 .left) in
+    unbroken (s .args .line) (s .args .count) (sym (k .line-broken .ensures) ∙ is-unbroken) .few
 
 returns-3 : tie.Need-returns-3
 returns-3 c =

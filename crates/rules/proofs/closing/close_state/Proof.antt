@@ -8,7 +8,7 @@ use lib.ListN.{length}
 use lib.IntN.{ℤ}
 use mir.Syntax.{w64}
 use mir.Val.{SFits}
-use Rattle.numbers.specs.Whole.{eqZ}
+use Rattle.numbers.specs.Numbers.{eqZ}
 use Rattle.numbers.specs.Tables.{firstOf}
 use Rattle.numbers.proofs.Equal.{eq-as}
 use Rattle.numbers.proofs.Machine.{stored-id}
@@ -41,8 +41,8 @@ early s =
 in-range : (s : tie.Start) → misfit (sectionsOf (book s .sections)) ≡ false
 in-range s = let b = book s in or-l (misfit (sectionsOf (b .sections))) (lineBroken (b .line) (length (sectionsOf (b .sections)))) (s .pre .0 .0)
 
-whole : (s : tie.Start) → Unbroken (s .args .line) (s .args .count)
-whole s =
+is-unbroken : (s : tie.Start) → Unbroken (s .args .line) (s .args .count)
+is-unbroken s =
     let b = book s in
     unbroken (s .args .line) (s .args .count)
     (sym (counted-broken (b .line) (b .sections)) ∙ or-r (misfit (sectionsOf (b .sections))) (lineBroken (b .line) (length (sectionsOf (b .sections)))) (s .pre .0 .0))
@@ -54,7 +54,7 @@ height-fits : (s : tie.Start) → SFits w64 (s .args .line .opening .start .heig
 height-fits s = search needs
 
 closing-state-requires : tie.Need-closing-state-requires
-closing-state-requires c κs = whole (c .before .before .before .before .before) .few
+closing-state-requires c κs = is-unbroken (c .before .before .before .before .before) .few
 
 abbrev start : tie.After-closing-state → tie.Start
 start m = m .before .before .before .before .before .before
@@ -88,7 +88,7 @@ unfolding figuresFit
 fit s e =
     let b = book s in
     let some = or-r (not (eqb (b .line .present .count) 0) || isReturn (b .line .waiting)) (isEmpty (sectionsOf (b .sections))) (failed (early s) refl e 33) in
-    λ i. some-long (sectionsOf (b .sections)) some i && not (in-range s i) && whole s .start i && s .pre .1 i
+    λ i. some-long (sectionsOf (b .sections)) some i && not (in-range s i) && is-unbroken s .start i && s .pre .1 i
 
 line-refusal-requires : tie.Need-line-refusal-requires
 line-refusal-requires c κs =

@@ -11,7 +11,7 @@ use borrow.Author.Needs.{needs}
 use borrow.Author.Tests.{eq-eqb, ne-eqb}
 use mir.Syntax.{w64}
 use mir.Val.{SFits, toZ, ofZ}
-use Rattle.numbers.specs.Whole.{anyOf, eqZ}
+use Rattle.numbers.specs.Numbers.{anyOf, eqZ}
 use Rattle.numbers.proofs.Equal.{eq-as}
 use Rattle.numbers.proofs.Machine.{stored, stored-id}
 use Rattle.adjust.specs.declared.Section.{Section}

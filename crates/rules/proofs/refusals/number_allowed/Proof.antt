@@ -5,7 +5,7 @@ use mathlib.Core.List.{[], map}
 use lib.IntN.{ℤ}
 use mir.Syntax.{w64}
 use mir.Val.{SFits}
-use Rattle.numbers.specs.Whole.{eqZ, lastOf}
+use Rattle.numbers.specs.Numbers.{eqZ, lastOf}
 use Rattle.numbers.proofs.Equal.{eq-as}
 use Rattle.numbers.proofs.Machine.{stored-id}
 use Rattle.adjust.specs.declared.Section.{Section}

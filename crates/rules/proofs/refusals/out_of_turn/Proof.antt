@@ -6,7 +6,7 @@ use lib.IntN.{ℤ}
 use borrow.Author.Tests.{eq-eqb, ne-eqb}
 use mir.Syntax.{w64}
 use mir.Val.{SFits}
-use Rattle.numbers.specs.Whole.{eqZ}
+use Rattle.numbers.specs.Numbers.{eqZ}
 use Rattle.numbers.proofs.Equal.{eq-as}
 use Rattle.numbers.proofs.Machine.{stored-id}
 use Rattle.rules.specs.LineState.{outwardOrReturn}

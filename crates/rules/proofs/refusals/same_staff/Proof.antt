@@ -3,7 +3,7 @@ use mathlib.Core.Path.{sym, ap, _∙_}
 use mathlib.Core.Bool.{false}
 use mir.Syntax.{w64}
 use mir.Val.{SFits}
-use Rattle.numbers.specs.Whole.{eqZ}
+use Rattle.numbers.specs.Numbers.{eqZ}
 use Rattle.numbers.proofs.Equal.{eq-as}
 use Rattle.rules.specs.declared.Waiting.{Waiting}
 use Rattle.rules.specs.LineState.{outwardOrReturn}

@@ -2,7 +2,7 @@
 use mathlib.Core.Path.{sym, _∙_}
 use mathlib.Core.List.{[]}
 use native.Mathlib.Omega.{arith}
-use Rattle.numbers.specs.Whole.{filled}
+use Rattle.numbers.specs.Numbers.{filled}
 use Rattle.textbook.proofs.Lines.{read-long, read-short}
 use borrow.Author.Needs.{needs}
 use Rattle.textbook.proofs.reader.read_text.Statement.{statement}

@@ -5,14 +5,14 @@ use Prim.Native.Nat.{ℕ, _+_, _-_, _≤_}
 use native.Mathlib.Omega.{arith}
 use lib.ListN.{length}
 use lib.IntN.{pos}
-use Rattle.numbers.specs.Whole.{filled}
+use Rattle.numbers.specs.Numbers.{filled}
 use Rattle.rules.specs.declared.Book.{Book}
 use Rattle.rules.specs.LineState.{bookIn}
 use Rattle.book.specs.Calls.{freshBook}
 use Rattle.ledger.specs.Entries.{entryStep}
 use Rattle.textbook.specs.Text.{lineEntry}
 use Rattle.textbook.specs.code.State.{lineCount}
-use Rattle.textbook.proofs.Reached.{Reached, reached-first, reached-next, reached-whole, reached-long, reached-last}
+use Rattle.textbook.proofs.Reached.{Reached, reached-first, reached-next, reached-places, reached-long, reached-last}
 use borrow.Author.Needs.{needs}
 use Rattle.textbook.proofs.text.read_lines.Statement.{statement}
 use Rattle.textbook.proofs.text.read_lines.Tie as tie
@@ -56,7 +56,7 @@ line-at-requires c κs = search needs
 take-line-requires : tie.Need-take-line-requires Inv-loop μ-loop
 take-line-requires c κs =
     let l = c .before .before .before .before .before .before in
-    let w = reached-whole (text l) (l .loop .inv) in
+    let w = reached-places (text l) (l .loop .inv) in
     (w .numbers, (w .heights, (w .distances, w .discrepancies)))
 
 slice-aggregate-set-refusal : tie.Need-slice-aggregate-set-refusal Inv-loop μ-loop

@@ -2,7 +2,7 @@
 use mathlib.Core.Path.{_≡_, sym, ap, _∙_}
 use mathlib.Core.List.{List}
 use Prim.Native.Nat.{ℕ}
-use Rattle.adjust.proofs.Holding.{Whole}
+use Rattle.adjust.proofs.Holding.{Places}
 use Rattle.records.specs.declared.Kind.{Kind}
 use Rattle.columns.specs.declared.parser.TextLine.{TextLine}
 use Rattle.columns.specs.Records.{lineIn}
@@ -34,8 +34,8 @@ enum-known-kind-2 c = search needs
 abbrev book : tie.Start → Book
 book s = let a = s .args in bookIn (a .line) (a .count) (a .numbers .now) (a .heights .now) (a .distances .now) (a .discrepancies .now)
 
-whole : (s : tie.Start) → Whole (book s .sections)
-whole s = record { numbers = s .pre .0; heights = s .pre .1 .0; distances = s .pre .1 .1 .0; discrepancies = s .pre .1 .1 .1 }
+has-places : (s : tie.Start) → Places (book s .sections)
+has-places s = record { numbers = s .pre .0; heights = s .pre .1 .0; distances = s .pre .1 .1 .0; discrepancies = s .pre .1 .1 .1 }
 
 entry-is : (l : List ℕ) {x : TextLine} {k : Kind} → x ≡ lineIn l → x .kind ≡ k → entryOf k (x .values) ≡ lineEntry l
 entry-is l {x} p e = (λ i. entryOf (sym e i) (x .values)) ∙ (λ i. entryOf (p i .kind) (p i .values))
@@ -49,8 +49,8 @@ returns c =
     let e = c .before .store .ensures in
     let x = m .decide .result in
     (λ i. record { number = x .number; book = bookIn (x .line) (e .0 i) (e .1 .0 i) (e .1 .1 .0 i) (e .1 .1 .1 .0 i) (e .1 .1 .1 .1 i) })
-    ∙ (λ i. record { number = x .number; book = record { line = x .line; sections = stored-sections (book s .sections) x (whole s) i } })
-    ∙ step-made (book s) (whole s) _ (m .decide .ensures)
+    ∙ (λ i. record { number = x .number; book = record { line = x .line; sections = stored-sections (book s .sections) x (has-places s) i } })
+    ∙ step-made (book s) (has-places s) _ (m .decide .ensures)
     ∙ ap (entryStep (book s)) (entry-is (s .args .bytes .now) (p .parse-line .ensures .0) (k .kind .given .1))
 
 returns-2 : tie.Need-returns-2

@@ -1,6 +1,6 @@
 -- `unread_state` meets its contract.
 use mathlib.Core.List.{[], _∷_}
-use Rattle.numbers.specs.Whole.{filled}
+use Rattle.numbers.specs.Numbers.{filled}
 use borrow.Author.Needs.{needs}
 use Rattle.textbook.proofs.text.unread_state.Statement.{statement}
 use Rattle.textbook.proofs.text.unread_state.Tie as tie

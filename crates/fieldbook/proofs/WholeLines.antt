@@ -11,7 +11,7 @@ use lib.IntN.{pos}
 use Rattle.numbers.proofs.Tables.{first-each}
 use Rattle.numbers.proofs.Tests.{by-test, is-true}
 use Rattle.numbers.proofs.All.{All, all-head, all-tail, all-cons, all-append}
-use Rattle.ledger.proofs.Whole.{calls-kept}
+use Rattle.ledger.proofs.Kept.{calls-kept}
 use Rattle.adjust.specs.declared.Point.{Point}
 use Rattle.records.specs.declared.Tag.{Tag}
 use Rattle.records.specs.declared.Kind.{Kind}

@@ -68,9 +68,9 @@ pub record Kept (v : LineState) : Type 0 where
   pub narrow-sections : All narrow (v .sections)
 
 -- so the test of 20 does not hold
-pub kept-whole : (v : LineState) → Kept v → (c : Call) → broken v c ≡ false
+pub kept-unbroken : (v : LineState) → Kept v → (c : Call) → broken v c ≡ false
 unfolding lineBroken
-kept-whole v i c =
+kept-unbroken v i c =
     λ j. (none (isClosing c) j
     || (not (le-leb (length (v .sections)) 64 (i .few) j) || not (run-fits (v .line .present) (i .present) j) || waits (v .line .waiting) (i .waiting) j || not (i .start j) || not (i .end j)
     || i .placed j))
@@ -311,13 +311,13 @@ calls-kept calls = after-kept calls freshReading fresh-kept
 -- ---- so a book made by calls never meets the test of 20
 
 pub never-broken : (calls : List Call) (c : Call) → broken (plainState (after freshReading calls)) c ≡ false
-never-broken calls c = kept-whole (plainState (after freshReading calls)) (calls-kept calls) c
+never-broken calls c = kept-unbroken (plainState (after freshReading calls)) (calls-kept calls) c
 
 -- and a book gives the number that the rules give
 pub same-refusal : (v : LineState) (c : Call) → Kept v → bookRefusal v c ≡ refusal v c
 unfolding bookRefusal
 same-refusal v c i =
-    ap (λ (b : Bool). firstOf (inputTests c ++ ((20, b) ∷ stateTests v c))) (kept-whole v i c) ∙ first-skips (inputTests c) (stateTests v c) 20
+    ap (λ (b : Bool). firstOf (inputTests c ++ ((20, b) ∷ stateTests v c))) (kept-unbroken v i c) ∙ first-skips (inputTests c) (stateTests v c) 20
 
 -- ---- the length
 
