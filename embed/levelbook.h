@@ -1,6 +1,6 @@
 /* The proved levelling book of third and fourth order, for C.
  *
- * Build the libraries at the root of the repository with `rt staticlib NAME` for NAME api, adjust, runner and fieldbook, and link those of
+ * Build the libraries at the root of the repository with `rt staticlib NAME` for NAME rootcalls, adjust, runner and fieldbook, and link those of
  * target/staticlib whose functions you call; each is named below.
  *
  * A list is lent as a pointer and a length. The pointer is not NULL even where the length is 0; lists that are lent to one call do not overlap; a
@@ -66,10 +66,10 @@ uint8_t level_adjust(const struct level_leg *legs, size_t count, int64_t start, 
  * of the start and each section, 0 where there is none. Library runner. */
 size_t level_run(const int64_t *calls, size_t count, uint8_t *numbers, size_t answers, int64_t *figures, size_t places);
 
-/* The whole number nearest to n / d, a tie going to the even one. A d outside 1 to 4 * 10^18 stands for the nearest one inside. Library api. */
+/* The whole number nearest to n / d, a tie going to the even one. A d outside 1 to 4 * 10^18 stands for the nearest one inside. Library rootcalls. */
 int64_t level_round_half_even(int64_t n, int64_t d);
 
-/* Whether a * x * x is at most b * l, exactly. Library api. */
+/* Whether a * x * x is at most b * l, exactly. Library rootcalls. */
 bool level_root_within(uint16_t a, int64_t x, uint16_t b, int64_t l);
 
 #ifdef __cplusplus

@@ -111,14 +111,14 @@ fn built_with(folder: &Path) -> Output {
 fn the_folder_of_the_libraries() {
     let folder = Path::new(env!("CARGO_TARGET_TMPDIR")).join("libraries");
     create_dir_all(folder.join("none")).expect("a folder of the tests");
-    for name in ["api", "adjust", "runner", "fieldbook"].map(|name| format!("lib{name}.a")) {
+    for name in ["rootcalls", "adjust", "runner", "fieldbook"].map(|name| format!("lib{name}.a")) {
         copy(path("target/staticlib").join(&name), folder.join(&name)).expect("the library");
     }
     let output = built_with(&folder);
     assert_eq!(output.stdout, examples().remove(0).report, "{}", String::from_utf8_lossy(&output.stderr));
     let missing = built_with(&folder.join("none"));
     let complaint = String::from_utf8_lossy(&missing.stderr);
-    assert!(!missing.status.success() && complaint.contains("none/libapi.a is missing") && complaint.contains("LEVELBOOK_LIB_DIR"), "{complaint}");
+    assert!(!missing.status.success() && complaint.contains("none/librootcalls.a is missing") && complaint.contains("LEVELBOOK_LIB_DIR"), "{complaint}");
 }
 
 #[test]

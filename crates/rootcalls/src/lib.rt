@@ -1,4 +1,4 @@
-// The functions that C and Rust call, on numbers and byte slices: thin names for those of the crates below.
+// The functions of roots that C and Rust call: thin names for them.
 ghost use mathlib.Core.Path.{_≡_};
 ghost use Rattle.roots.specs.Round.{divisor, roundEven};
 ghost use Rattle.roots.specs.Limit.{isWithin};

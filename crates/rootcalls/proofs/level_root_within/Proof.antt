@@ -3,8 +3,8 @@ use mathlib.Core.Path.{_∙_}
 use borrow.Author.Needs.{needs}
 use Rattle.numbers.proofs.Machine.{stored-id}
 use Rattle.roots.specs.Limit.{isWithin}
-use Rattle.api.proofs.level_root_within.Statement.{statement}
-use Rattle.api.proofs.level_root_within.Tie as tie
+use Rattle.rootcalls.proofs.level_root_within.Statement.{statement}
+use Rattle.rootcalls.proofs.level_root_within.Tie as tie
 
 within-requires : tie.Need-within-requires
 within-requires c κs = search needs

@@ -5,8 +5,8 @@ use mir.Syntax.{w64}
 use mir.Val.{SFits}
 use Rattle.numbers.proofs.Machine.{stored-id}
 use Rattle.roots.specs.Round.{roundEven, divisor}
-use Rattle.api.proofs.level_round_half_even.Statement.{statement}
-use Rattle.api.proofs.level_round_half_even.Tie as tie
+use Rattle.rootcalls.proofs.level_round_half_even.Statement.{statement}
+use Rattle.rootcalls.proofs.level_round_half_even.Tie as tie
 
 round-half-even-requires : tie.Need-round-half-even-requires
 round-half-even-requires c κs = search needs
