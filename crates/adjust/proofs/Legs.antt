@@ -15,10 +15,11 @@ use lib.IntN.{ℤ, pos}
 use Rattle.numbers.specs.Numbers.{filled, over}
 use Rattle.numbers.proofs.Arrays.{drop-next}
 use Rattle.numbers.proofs.Filled.{filled-length, filled-take}
+use Rattle.records.specs.Answers.{numberOf, answerOf}
 use Rattle.adjust.specs.declared.Section.{Section}
 use Rattle.adjust.specs.declared.entry.Leg.{Leg}
 use Rattle.adjust.specs.Sections.{sectionAt, sectionsFrom, sectionsOf}
-use Rattle.adjust.specs.Call.{numberOf, answerOf, adjustRefusal, adjustedHeights, heightsAfter}
+use Rattle.adjust.specs.Call.{adjustRefusal, adjustedHeights, heightsAfter}
 use Rattle.adjust.specs.Legs.{legSection, legSections, noLeg, gathered, legTable}
 use Rattle.adjust.proofs.Lists.{from-length}
 

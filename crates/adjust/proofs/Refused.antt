@@ -6,9 +6,10 @@ use Prim.Native.Nat.{ℕ}
 use lib.IntN.{ℤ}
 use Rattle.numbers.specs.Tables.{Lowest}
 use Rattle.numbers.proofs.Tables.{first-lowest, number-cond}
+use Rattle.records.specs.declared.Answer.the-variants.{Taken, Refused}
+use Rattle.records.specs.Answers.{numberOf, answerOf}
 use Rattle.adjust.specs.declared.Section.{Section}
-use Rattle.adjust.specs.declared.Answer.the-variants.{Taken, Refused}
-use Rattle.adjust.specs.Call.{numberOf, answerOf, adjustTests, adjustRank, adjustRefusal}
+use Rattle.adjust.specs.Call.{adjustTests, adjustRank, adjustRefusal}
 
 pub adjust-lowest : (start end : ℤ) (ss : List Section) (places : ℕ) → Lowest adjustRank (adjustTests start end ss places) (adjustRefusal start end ss places)
 unfolding adjustRefusal

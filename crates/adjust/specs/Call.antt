@@ -9,18 +9,8 @@ use Rattle.numbers.specs.Numbers.{over}
 use Rattle.numbers.specs.Tables.{firstOf}
 use Rattle.adjust.specs.declared.Section.{Section}
 use Rattle.adjust.specs.declared.Point.{Point}
-use Rattle.adjust.specs.declared.Answer.{Answer}
-use Rattle.adjust.specs.declared.Answer.the-variants.{Taken, Refused}
 use Rattle.adjust.specs.Sections.{anyOutside, heightInRange}
 use Rattle.adjust.specs.Line.{frameOf, sectionPoints}
-
--- document 01's number of an answer, 0 for a call that is taken; and the answer with a number
-abbrev pub numberOf : Answer → ℕ
-numberOf Taken = 0
-numberOf (Refused n) = n
-
-abbrev pub answerOf : ℕ → Answer
-answerOf n = cond (eqb n 0) Taken (Refused n)
 
 -- of sections between two known heights, into a list with so many places
 abbrev pub adjustTests : ℤ → ℤ → List Section → ℕ → List (ℕ × Bool)

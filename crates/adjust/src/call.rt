@@ -4,16 +4,17 @@ ghost use mathlib.Core.List.{map};
 ghost use Prim.Native.Nat.{_≤_};
 ghost use lib.ListN.{length, take, drop};
 ghost use Rattle.numbers.specs.Numbers.{over};
+ghost use Rattle.records.specs.Answers.{numberOf, answerOf};
 ghost use Rattle.adjust.specs.declared.Point.{Point};
 ghost use Rattle.adjust.specs.Sections.{sectionsOf};
-ghost use Rattle.adjust.specs.Call.{adjustRefusal, numberOf, answerOf, heightsAfter};
-use super::Answer;
+ghost use Rattle.adjust.specs.Call.{adjustRefusal, heightsAfter};
 use super::Point;
 use super::Sections;
 use super::height_in_range;
 use super::heights::points_of;
 use super::sums::totals_between;
 use super::table::any_outside;
+use records::Answer;
 
 // The refusal of the call for a height list of so many places: 11, 13, 12 or 5, or 0.
 fn adjust_refusal(start: i64, end: i64, s: Sections, places: usize) -> u8

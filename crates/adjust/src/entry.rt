@@ -3,12 +3,13 @@
 ghost use mathlib.Core.Path.{_≡_};
 ghost use Prim.Native.Nat.{_≤_, min};
 ghost use lib.ListN.{length};
+ghost use Rattle.records.specs.Answers.{numberOf, answerOf};
 ghost use Rattle.adjust.specs.Sections.{sectionsOf};
-ghost use Rattle.adjust.specs.Call.{numberOf, answerOf, adjustRefusal, heightsAfter};
+ghost use Rattle.adjust.specs.Call.{adjustRefusal, heightsAfter};
 ghost use Rattle.adjust.specs.Legs.{legSections, gathered, legTable};
-use super::Answer;
 use super::Sections;
 use super::call::adjust;
+use records::Answer;
 
 // A section as it is lent: its height difference Q in quarter mm, its distance R in half dm.
 #[repr(C)]

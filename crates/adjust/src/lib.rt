@@ -78,12 +78,6 @@ pub struct LineFigures {
     pub points: [Point; 65],
 }
 
-// A call's answer.
-pub enum Answer {
-    Taken,
-    Refused(u8),
-}
-
 // W in quarter mm and L in half dm.
 pub struct Totals {
     pub closure: i64,

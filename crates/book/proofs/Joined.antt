@@ -13,11 +13,11 @@ use mir.Val.{SFits}
 use Rattle.numbers.proofs.Tests.{by-test, holds, fails, and-r, not-false}
 use Rattle.numbers.proofs.Tables.{zero-cond, nonzero-cond}
 use Rattle.numbers.proofs.Machine.{stored, stored-id, stored-both}
+use Rattle.records.specs.Answers.{numberOf, answerOf}
 use Rattle.adjust.specs.declared.Section.{Section}
 use Rattle.adjust.specs.declared.Sections.{Sections}
 use Rattle.adjust.specs.Sections.{sectionsOf, holding}
 use Rattle.adjust.specs.Terms.{termsOf}
-use Rattle.adjust.specs.Call.{numberOf, answerOf}
 use Rattle.adjust.proofs.Refused.{number-of-answer}
 use Rattle.adjust.proofs.Lists.{from-length}
 use Rattle.adjust.proofs.Holding.{Places, holding-own, holding-more}

@@ -9,13 +9,13 @@ use lib.Dec.{eqb}
 use lib.IntN.{ℤ, pos}
 use Rattle.numbers.specs.Numbers.{filled}
 use Rattle.numbers.specs.Tables.{firstOf}
+use Rattle.records.specs.Answers.{numberOf, answerOf}
 use Rattle.adjust.specs.declared.terms.Class.the-variants.{Fourth}
 use Rattle.station.specs.declared.Instrument.the-variants.{Ds3}
 use Rattle.adjust.specs.declared.Summary.{Summary}
 use Rattle.adjust.specs.declared.Point.{Point}
 use Rattle.adjust.specs.Line.{Closing, closing}
 use Rattle.adjust.specs.Frames.{noPoint}
-use Rattle.adjust.specs.Call.{numberOf, answerOf}
 use Rattle.rules.specs.declared.Stage.the-variants.{Fresh}
 use Rattle.rules.specs.declared.Waiting.the-variants.{Nothing}
 use Rattle.rules.specs.declared.Book.{Book}

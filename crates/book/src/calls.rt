@@ -1,6 +1,6 @@
 // The calls of a book. Each gives its answer and the book after it; a refused call leaves the very book.
 ghost use mathlib.Core.Path.{_≡_};
-ghost use Rattle.adjust.specs.Call.{answerOf};
+ghost use Rattle.records.specs.Answers.{answerOf};
 ghost use Rattle.rules.specs.Rules.{open-line, station, end-run, drop-run, drop-section, close-line, open-spur, close-spur, collimation};
 ghost use mathlib.Core.Bool.{true};
 ghost use mathlib.Core.List.{[]};
@@ -22,10 +22,10 @@ use super::decisions::collimation_change;
 use super::decisions::decide;
 use super::decisions::station_change;
 use super::storing::change;
-use adjust::Answer;
 use adjust::LineSummary;
 use adjust::Opening;
 use adjust::Sections;
+use records::Answer;
 use records::Tag;
 use rules::Book;
 use rules::closing::figures_refusal;

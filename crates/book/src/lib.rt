@@ -1,7 +1,6 @@
 // The book of one levelling line: its calls.
 ghost use mathlib.Core.Path.{_≡_};
 ghost use Rattle.book.specs.Calls.{freshBook};
-use adjust::Answer;
 use adjust::Benchmark;
 use adjust::Opening;
 use adjust::Point;
@@ -9,6 +8,7 @@ use adjust::Section;
 use adjust::Sections;
 use adjust::Summary;
 use adjust::terms::Class;
+use records::Answer;
 use rules::Book;
 use rules::Line;
 use rules::Run;

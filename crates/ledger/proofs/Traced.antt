@@ -12,6 +12,7 @@ use Rattle.numbers.specs.Numbers.{filled, anyOf}
 use Rattle.numbers.proofs.Tests.{by-test, holds, no-true, not-true}
 use Rattle.numbers.proofs.Tables.{first-each, zero-cond}
 use Rattle.numbers.proofs.Filled.{filled-take}
+use Rattle.records.specs.Answers.{numberOf}
 use Rattle.adjust.specs.declared.Section.{Section}
 use Rattle.adjust.specs.declared.Point.{Point}
 use Rattle.adjust.specs.declared.Summary.{Summary}
@@ -19,7 +20,6 @@ use Rattle.adjust.specs.declared.Opening.{Opening}
 use Rattle.adjust.specs.Sections.{sectionsOf}
 use Rattle.adjust.specs.Line.{Frame, points, lineFrame, Closing, closing}
 use Rattle.adjust.specs.Frames.{noPoint}
-use Rattle.adjust.specs.Call.{numberOf}
 use Rattle.adjust.proofs.Lists.{points-length}
 use Rattle.adjust.proofs.Refused.{number-of-answer}
 use Rattle.adjust.proofs.Holding.{sections-holding, holding-again}

@@ -6,8 +6,8 @@ use Prim.Native.Nat.{ℕ}
 use lib.Dec.{eqb}
 use lib.IntN.{ℤ}
 use Rattle.numbers.specs.Numbers.{anyOf}
+use Rattle.records.specs.Answers.{numberOf}
 use Rattle.adjust.specs.Line.{Closing}
-use Rattle.adjust.specs.Call.{numberOf}
 use Rattle.records.specs.declared.Tag.{Tag}
 use Rattle.rules.specs.declared.Stage.the-variants.{Closed}
 use Rattle.rules.specs.declared.Book.{Book}

@@ -26,3 +26,9 @@ pub enum Kind {
     Record(Tag),
     Refused(u8),
 }
+
+// A call's answer: it is taken, or refused with this number of document 01.
+pub enum Answer {
+    Taken,
+    Refused(u8),
+}

@@ -10,9 +10,9 @@ use Rattle.numbers.specs.Numbers.{filled, over}
 use Rattle.numbers.proofs.Filled.{filled-take}
 use Rattle.numbers.proofs.Tables.{zero-cond, nonzero-cond}
 use Rattle.numbers.proofs.Machine.{stored, stored-both, holds-stored}
+use Rattle.records.specs.declared.Answer.the-variants.{Taken, Refused}
 use Rattle.adjust.specs.declared.Point.{Point}
 use Rattle.adjust.specs.declared.Section.{Section}
-use Rattle.adjust.specs.declared.Answer.the-variants.{Taken, Refused}
 use Rattle.adjust.specs.declared.Totals.{Totals}
 use Rattle.adjust.specs.Sections.{sectionsOf}
 use Rattle.adjust.specs.Line.{Frame, frame, frameOf, sectionPoints, points}

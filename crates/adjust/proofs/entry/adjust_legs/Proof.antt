@@ -3,8 +3,9 @@ use mathlib.Core.Path.{ap, _∙_}
 use lib.ListN.{length}
 use borrow.Author.Needs.{needs}
 use Rattle.numbers.proofs.Machine.{stored-id}
+use Rattle.records.specs.Answers.{numberOf, answerOf}
 use Rattle.adjust.specs.Sections.{sectionsOf}
-use Rattle.adjust.specs.Call.{numberOf, answerOf, adjustRefusal, heightsAfter}
+use Rattle.adjust.specs.Call.{adjustRefusal, heightsAfter}
 use Rattle.adjust.proofs.entry.adjust_legs.Statement.{statement}
 use Rattle.adjust.proofs.entry.adjust_legs.Tie as tie
 

@@ -1,7 +1,7 @@
 -- `answer_of` meets its contract.
 use mathlib.Core.Path.{sym}
 use Rattle.numbers.proofs.Tables.{zero-cond, nonzero-cond}
-use Rattle.adjust.specs.declared.Answer.the-variants.{Taken, Refused}
+use Rattle.records.specs.declared.Answer.the-variants.{Taken, Refused}
 use Rattle.book.proofs.calls.answer_of.Statement.{statement}
 use Rattle.book.proofs.calls.answer_of.Tie as tie
 
