@@ -13,7 +13,7 @@ use Rattle.numbers.proofs.Tests.{by-test, is-true, is-false, not-both}
 use Rattle.columns.specs.declared.parser.Field.{Field}
 use Rattle.columns.specs.declared.parser.Field.the-variants.{Number, Bad}
 use Rattle.columns.specs.Decimals.{blanks, digits, digitsBy, decimal, pad, same, valueOf, hasMinus, candidate, fieldOf}
-use Rattle.columns.specs.code.Parser.{leadingBlanks, isDigit, allDigits, runOf, naturalOf, negated}
+use Rattle.columns.specs.code.Parser.{leadingBlanks, isDigit, allDigits, digitRun, naturalOf, negated}
 use Rattle.columns.proofs.Compare.{both}
 use Rattle.columns.proofs.Digits.{first-digit, digits-small, digits-value, digit-range}
 use Rattle.columns.proofs.Fields.{digits-only, length-pad-of, bad-number, field-written, written-field, field-is}
@@ -164,8 +164,8 @@ natural-zero (b ∷ []) h e = absurd (omega arith)
 natural-zero (b ∷ c ∷ r) h e = ap (λ (x : ℕ). naturalOf (x ∷ c ∷ r)) e ∙ leading-zero c r
 
 -- other digits are their number's
-run-is : (bs : List ℕ) → (allDigits bs ≡ true → bs ≡ digits (valueOf 0 bs)) → naturalOf bs ≡ runOf bs
-unfolding naturalOf runOf decimal
+run-is : (bs : List ℕ) → (allDigits bs ≡ true → bs ≡ digits (valueOf 0 bs)) → naturalOf bs ≡ digitRun bs
+unfolding naturalOf digitRun decimal
 run-is bs h =
     by-test (allDigits bs) (λ t. cond t (fieldOf bs) Bad ≡ cond t (Number (pos (valueOf 0 bs))) Bad)
     (λ t. field-written bs (pos (valueOf 0 bs)) (exact-pad (pos (valueOf 0 bs)) bs (h (is-true t)))) (λ t. refl)
@@ -178,13 +178,13 @@ digit-is b t =
     whole : (b : ℕ) → 48 ≤ b → b ≤ 57 → 48 + (10 * 0 + (b - 48)) % 10 ≡ b
     whole b l h = omega arith
 
-pub natural-one : (bs : List ℕ) → length bs ≡ 1 → naturalOf bs ≡ runOf bs
+pub natural-one : (bs : List ℕ) → length bs ≡ 1 → naturalOf bs ≡ digitRun bs
 unfolding allDigits valueOf
 natural-one [] h = absurd (omega arith)
 natural-one (b ∷ []) h = run-is (b ∷ []) (λ h. sym (digit-is b (both (isDigit b) true h .0)))
 natural-one (b ∷ c ∷ r) h = absurd (omega arith)
 
-pub natural-more : (bs : List ℕ) → 0 < length bs → (getD bs 0 0 ≡ 48 → ⊥) → naturalOf bs ≡ runOf bs
+pub natural-more : (bs : List ℕ) → 0 < length bs → (getD bs 0 0 ≡ 48 → ⊥) → naturalOf bs ≡ digitRun bs
 unfolding allDigits valueOf
 natural-more [] h k = absurd (omega arith)
 natural-more (b ∷ r) h k =

@@ -19,7 +19,7 @@ use Rattle.records.specs.declared.Kind.the-variants.{Record, Refused}
 use Rattle.columns.specs.declared.parser.TextLine.{TextLine}
 use Rattle.columns.specs.Decimals.{same, fieldOf}
 use Rattle.columns.specs.Lines.{lineEnd}
-use Rattle.columns.specs.Records.{letters, fieldCount, tags, tagAmong, isNumber, numberOf, allNumbers, numbersIn, refusedLine, recordLine, numbersLine, recordIn, lineOfKind, lineIn, kindNumber, kindTags, hasShape, hasNumbers, lineTests, Parses}
+use Rattle.columns.specs.Records.{letters, fieldCount, tags, tagAmong, isNumber, fieldNumber, allNumbers, numbersIn, refusedLine, recordLine, numbersLine, recordIn, lineOfKind, lineIn, kindNumber, kindTags, hasShape, hasNumbers, shapeTests, Parses}
 use Rattle.columns.proofs.Lists.{left-next, left-none}
 use Rattle.columns.proofs.Compare.{same-lengths}
 use Rattle.columns.proofs.Lines.{length-end}
@@ -51,7 +51,7 @@ module _ (l : List ℕ) (n i : ℕ) (h : i < n) where
   unfolding numbersIn
   values-next z e =
       ap (λ (k : ℕ). numbersIn k (drop (3 + 8 * i) l)) (left-next n i h)
-      ∙ (λ j. numberOf (e j) ∷ numbersIn (n - (i + 1)) (after j))
+      ∙ (λ j. fieldNumber (e j) ∷ numbersIn (n - (i + 1)) (after j))
 
 pub numbers-end : (n i : ℕ) (t : List ℕ) → n ≤ i → allNumbers (n - i) t ≡ true
 unfolding allNumbers
@@ -146,5 +146,5 @@ parses l e =
     go (Refused n) f = (other-tag tags (take 3 l) n f, refl)
 
 -- and it is the lowest of the two that applies
-pub line-lowest : (l : List ℕ) → Lowest (λ n. n) (lineTests l) (firstOf (lineTests l))
-line-lowest l = first-lowest (λ n. n) (lineTests l) 0 refl
+pub line-lowest : (l : List ℕ) → Lowest (λ n. n) (shapeTests l) (firstOf (shapeTests l))
+line-lowest l = first-lowest (λ n. n) (shapeTests l) 0 refl

@@ -17,7 +17,7 @@ use Rattle.records.specs.declared.Kind.the-variants.{Record, Refused}
 use Rattle.columns.specs.declared.parser.TextLine.{TextLine}
 use Rattle.columns.specs.Decimals.{fitsIn, pad, same, fieldOf}
 use Rattle.columns.specs.Lines.{lineEnd, lineWith, widthOf, fields, allFit, lineFits, tagLine}
-use Rattle.columns.specs.Records.{letters, fieldCount, tags, tagAmong, isNumber, numberOf, allNumbers, numbersIn, zeros, refusedLine, recordLine, numbersLine, recordIn, lineOfKind, lineIn}
+use Rattle.columns.specs.Records.{letters, fieldCount, tags, tagAmong, isNumber, fieldNumber, allNumbers, numbersIn, zeros, refusedLine, recordLine, numbersLine, recordIn, lineOfKind, lineIn}
 use Rattle.columns.proofs.Compare.{both, same-true, same-equal}
 use Rattle.columns.proofs.Fields.{length-pad, read-back, written-field, number-fits}
 use Rattle.columns.proofs.Lines.{columns-narrow, length-end, fits-line, fits-room, line-is}
@@ -49,7 +49,7 @@ fields-back (z ∷ zs) r h =
     let d : drop 8 ((pad w z ++ fields false zs) ++ r) ≡ q = ap (drop 8) e ∙ drop-at (pad w z) q 8 n in
     let i = fields-back zs r (t .1) in (
       (λ j. cond (isNumber (f j)) (allNumbers (length zs) (d j)) false) ∙ i .0,
-      (λ j. numberOf (f j) ∷ numbersIn (length zs) (d j)) ∙ ap (λ (x : List ℤ). z ∷ x) (i .1),
+      (λ j. fieldNumber (f j) ∷ numbersIn (length zs) (d j)) ∙ ap (λ (x : List ℤ). z ∷ x) (i .1),
     )
 
 -- the numbers of a record fit its line, and where its fields end
@@ -90,7 +90,7 @@ tag-letters (u ∷ ts) w t e =
     by-test (same w (letters u)) (λ b. cond b (Record u) (tagAmong ts w) ≡ Record t → w ≡ letters t)
     (λ b f. let s : u ≡ t = cc in same-true w (letters u) (is-true b) ∙ ap letters s) (λ b f. tag-letters ts w t f) e
 
-number-is : (f : Field) → isNumber f ≡ true → f ≡ Number (numberOf f)
+number-is : (f : Field) → isNumber f ≡ true → f ≡ Number (fieldNumber f)
 number-is (Number z) e = refl
 number-is Bad e = absurd (not-both e refl)
 
@@ -99,7 +99,7 @@ unfolding allNumbers numbersIn fields allFit
 fields-written zero t k h = (refl, refl)
 fields-written (suc n) t k h =
     let b = both (isNumber (fieldOf (take 8 t))) (allNumbers n (drop 8 t)) h in
-    let z : ℤ = numberOf (fieldOf (take 8 t)) in
+    let z : ℤ = fieldNumber (fieldOf (take 8 t)) in
     let e : fieldOf (take 8 t) ≡ Number z = number-is (fieldOf (take 8 t)) (b .0) in
     let m : ℕ = length (numbersIn n (drop 8 t)) in
     let w : length (take 8 t) ≡ widthOf false m = omega (arith, length-take 8 t, width-eight m) in

@@ -16,7 +16,7 @@ use Rattle.numbers.proofs.Machine.{fits-as}
 use Rattle.numbers.proofs.Arrays.{drop-next}
 use Rattle.columns.specs.declared.parser.Field.the-variants.{Number, Bad}
 use Rattle.columns.specs.Decimals.{valueOf}
-use Rattle.columns.specs.code.Parser.{leadingBlanks, isDigit, allDigits, runOf, negated}
+use Rattle.columns.specs.code.Parser.{leadingBlanks, isDigit, allDigits, digitRun, negated}
 use Rattle.columns.proofs.Digits.{digit-yes}
 
 -- ---- blanks
@@ -63,12 +63,12 @@ module _ (bs : List ℕ) (i : ℕ) (h : i < length bs) where
   value-next n = ap (valueOf n) (drop-next bs i 0 h)
 
 module _ (bs : List ℕ) where
-  pub run-bad : allDigits bs ≡ false → runOf bs ≡ Bad
-  unfolding runOf
+  pub run-bad : allDigits bs ≡ false → digitRun bs ≡ Bad
+  unfolding digitRun
   run-bad e = ap (λ (t : Bool). cond t (Number (pos (valueOf 0 bs))) Bad) e
 
-  pub run-number : (n i : ℕ) → length bs ≤ i → allDigits bs ≡ allDigits (drop i bs) → valueOf 0 bs ≡ valueOf n (drop i bs) → runOf bs ≡ Number (pos n)
-  unfolding runOf allDigits valueOf
+  pub run-number : (n i : ℕ) → length bs ≤ i → allDigits bs ≡ allDigits (drop i bs) → valueOf 0 bs ≡ valueOf n (drop i bs) → digitRun bs ≡ Number (pos n)
+  unfolding digitRun allDigits valueOf
   run-number n i h a v =
       let e = drop-of-length-le bs h in
       ap (λ (t : Bool). cond t (Number (pos (valueOf 0 bs))) Bad) (a ∙ ap allDigits e) ∙ ap (λ (m : ℕ). Number (pos m)) (v ∙ ap (valueOf n) e)

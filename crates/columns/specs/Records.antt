@@ -58,9 +58,9 @@ abbrev pub isNumber : Field → Bool
 isNumber (Number z) = true
 isNumber Bad = false
 
-abbrev pub numberOf : Field → ℤ
-numberOf (Number z) = z
-numberOf Bad = pos 0
+abbrev pub fieldNumber : Field → ℤ
+fieldNumber (Number z) = z
+fieldNumber Bad = pos 0
 
 -- whether the n fields of eight columns at the start of t are numbers
 unfoldable pub allNumbers : ℕ → List ℕ → Bool
@@ -70,7 +70,7 @@ allNumbers (suc n) t = cond (isNumber (fieldOf (take 8 t))) (allNumbers n (drop 
 -- and these numbers
 unfoldable pub numbersIn : ℕ → List ℕ → List ℤ
 numbersIn zero t = []
-numbersIn (suc n) t = numberOf (fieldOf (take 8 t)) ∷ numbersIn n (drop 8 t)
+numbersIn (suc n) t = fieldNumber (fieldOf (take 8 t)) ∷ numbersIn n (drop 8 t)
 
 -- ---- lines
 
@@ -126,11 +126,11 @@ hasNumbers (Record t) l = allNumbers (fieldCount t) (drop 3 l)
 hasNumbers (Refused n) l = true
 
 -- document 01's tests of a line, in their order
-abbrev pub lineTests : List ℕ → List (ℕ × Bool)
-lineTests l = let k : Kind = tagAmong tags (take 3 l) in (1, not (hasShape k l)) ∷ (2, not (hasNumbers k l)) ∷ []
+abbrev pub shapeTests : List ℕ → List (ℕ × Bool)
+shapeTests l = let k : Kind = tagAmong tags (take 3 l) in (1, not (hasShape k l)) ∷ (2, not (hasNumbers k l)) ∷ []
 
 -- r is the line that l is, and has, by `kindNumber` and `kindTags`, the number of the first test that holds, and its tag where none does
 abbrev pub Parses : List ℕ → TextLine → Type 0
 Parses l r =
-    let n : ℕ = firstOf (lineTests l) in
+    let n : ℕ = firstOf (shapeTests l) in
     (r ≡ lineIn l) × ((kindNumber (r .kind) ≡ n) × (kindTags (r .kind) ≡ cond (eqb n 0) (kindTags (tagAmong tags (take 3 l))) []))

@@ -4,7 +4,7 @@ ghost use mathlib.Core.Bool.{cond};
 ghost use Prim.Native.Nat.{_+_, _*_, _≤_};
 ghost use lib.ListN.{length, drop};
 ghost use Rattle.columns.specs.Decimals.{same, fieldOf};
-ghost use Rattle.columns.specs.code.Parser.{leadingBlanks, runOf, naturalOf, negated};
+ghost use Rattle.columns.specs.code.Parser.{leadingBlanks, digitRun, naturalOf, negated};
 ghost use Rattle.columns.specs.Lines.{lineEnd, heading};
 ghost use Rattle.columns.specs.Records.{tags, tagAmong, fieldCount, numbersLine, refusedLine, recordIn, Parses};
 use super::bytes::same_bytes;
@@ -26,7 +26,7 @@ pub struct TextLine {
 // The number of a run of digits. Eighteen digits fit an i64.
 fn digit_run(bs: &[u8]) -> Field
     requires { ⌜ length (now bs) ≤ 18 ⌝ }
-    ensures { λ r. ⌜ r ≡ runOf (now (bs .entry)) ⌝ }
+    ensures { λ r. ⌜ r ≡ digitRun (now (bs .entry)) ⌝ }
 {
     let mut n: u64 = 0;
     let mut i = 0;

@@ -21,8 +21,8 @@ allDigits [] = true
 allDigits (b ∷ bs) = cond (isDigit b) (allDigits bs) false
 
 -- the number of a run of digits, leading zeros allowed
-unfoldable pub runOf : List ℕ → Field
-runOf bs = cond (allDigits bs) (Number (pos (valueOf 0 bs))) Bad
+unfoldable pub digitRun : List ℕ → Field
+digitRun bs = cond (allDigits bs) (Number (pos (valueOf 0 bs))) Bad
 
 -- a number with neither blanks nor a minus
 unfoldable pub naturalOf : List ℕ → Field
