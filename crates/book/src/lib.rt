@@ -4,7 +4,6 @@ ghost use Rattle.book.specs.Calls.{freshBook};
 use adjust::Benchmark;
 use adjust::Opening;
 use adjust::Point;
-use adjust::Section;
 use adjust::Sections;
 use adjust::Summary;
 use adjust::terms::Class;
@@ -17,18 +16,7 @@ use rules::Waiting;
 use station::Instrument;
 
 pub mod calls;
-pub mod decisions;
-mod effects;
-pub mod storing;
-
-// What a call makes of a book: the refusal number, 0 where the call is taken; the line that it leaves; whether it finishes a section, and which.
-// It holds no array.
-pub struct Change {
-    pub number: u8,
-    pub line: Line,
-    pub finishes: bool,
-    pub section: Section,
-}
+mod storing;
 
 // What any call answers, by the refusal number, and the book that it leaves: the very book where it is refused.
 pub struct Step {

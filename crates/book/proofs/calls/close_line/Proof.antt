@@ -8,7 +8,7 @@ use Rattle.rules.specs.Rules.{Call, close-line}
 use Rattle.book.specs.declared.Step.{Step}
 use Rattle.book.specs.Calls.{stepOf, closeOutcome}
 use Rattle.book.specs.code.Changes.{closedStep}
-use Rattle.book.proofs.Joined.{close-as}
+use Rattle.changes.proofs.Joined.{close-as}
 use Rattle.book.proofs.Closable.{closes, closing-fits}
 use borrow.Author.Needs.{needs}
 use Rattle.book.proofs.calls.close_line.Statement.{statement}

@@ -5,7 +5,7 @@ use Rattle.rules.specs.Rules.{Call, close-spur}
 use Rattle.book.specs.declared.Step.{Step}
 use Rattle.book.specs.Calls.{stepOf, closeOutcome}
 use Rattle.book.specs.code.Changes.{closedStep}
-use Rattle.book.proofs.Joined.{close-spur-as}
+use Rattle.changes.proofs.Joined.{close-spur-as}
 use Rattle.book.proofs.Closable.{closes, spur-fits}
 use borrow.Author.Needs.{needs}
 use Rattle.book.proofs.calls.close_spur.Statement.{statement}

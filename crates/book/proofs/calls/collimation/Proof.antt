@@ -4,8 +4,9 @@ use Prim.Native.Nat.{ℕ}
 use Rattle.adjust.proofs.Holding.{Places}
 use Rattle.rules.specs.Rules.{Call, collimation}
 use Rattle.rules.proofs.Looked.{collimation-alike}
-use Rattle.book.specs.code.Changes.{changeBy}
-use Rattle.book.proofs.Joined.{plain, step-made, step-answers}
+use Rattle.changes.specs.code.Changes.{changeBy}
+use Rattle.changes.proofs.Joined.{plain}
+use Rattle.book.proofs.Joined.{step-made, step-answers}
 use borrow.Author.Needs.{needs}
 use Rattle.book.proofs.calls.collimation.Statement.{statement}
 use Rattle.book.proofs.calls.collimation.Tie as tie

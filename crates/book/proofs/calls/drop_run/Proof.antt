@@ -1,6 +1,7 @@
 -- `drop_run` meets its contract: its record, taken.
 use Rattle.rules.specs.Rules.{drop-run}
-use Rattle.book.proofs.Joined.{plain, step-answers}
+use Rattle.changes.proofs.Joined.{plain}
+use Rattle.book.proofs.Joined.{step-answers}
 use borrow.Author.Needs.{needs}
 use Rattle.book.proofs.calls.drop_run.Statement.{statement}
 use Rattle.book.proofs.calls.drop_run.Tie as tie

@@ -1,5 +1,6 @@
 -- `end_run` meets its contract: its record, taken.
-use Rattle.book.proofs.Joined.{end-as, step-answers}
+use Rattle.changes.proofs.Joined.{end-as}
+use Rattle.book.proofs.Joined.{step-answers}
 use borrow.Author.Needs.{needs}
 use Rattle.book.proofs.calls.end_run.Statement.{statement}
 use Rattle.book.proofs.calls.end_run.Tie as tie

@@ -1,5 +1,6 @@
 -- `open` meets its contract: its record, taken.
-use Rattle.book.proofs.Joined.{open-as, step-answers}
+use Rattle.changes.proofs.Joined.{open-as}
+use Rattle.book.proofs.Joined.{step-answers}
 use borrow.Author.Needs.{needs}
 use Rattle.book.proofs.calls.open.Statement.{statement}
 use Rattle.book.proofs.calls.open.Tie as tie

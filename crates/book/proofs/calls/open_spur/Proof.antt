@@ -1,5 +1,6 @@
 -- `open_spur` meets its contract: its record, taken.
-use Rattle.book.proofs.Joined.{spur-as, step-answers}
+use Rattle.changes.proofs.Joined.{spur-as}
+use Rattle.book.proofs.Joined.{step-answers}
 use borrow.Author.Needs.{needs}
 use Rattle.book.proofs.calls.open_spur.Statement.{statement}
 use Rattle.book.proofs.calls.open_spur.Tie as tie

@@ -5,8 +5,9 @@ use Rattle.numbers.proofs.Machine.{stored}
 use Rattle.adjust.proofs.Holding.{Places}
 use Rattle.rules.specs.Rules.{Call, station}
 use Rattle.rules.proofs.Looked.{station-alike}
-use Rattle.book.specs.code.Changes.{changeBy}
-use Rattle.book.proofs.Joined.{station-as, step-made, step-answers}
+use Rattle.changes.specs.code.Changes.{changeBy}
+use Rattle.changes.proofs.Joined.{station-as}
+use Rattle.book.proofs.Joined.{step-made, step-answers}
 use borrow.Author.Needs.{needs}
 use Rattle.book.proofs.calls.station.Statement.{statement}
 use Rattle.book.proofs.calls.station.Tie as tie

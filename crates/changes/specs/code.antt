@@ -1,0 +1,2 @@
+-- What only contracts and proofs use.
+pub mod Changes
