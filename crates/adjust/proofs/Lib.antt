@@ -1,5 +1,5 @@
 -- What callers cite: Lines, the adjustment's theorem in any units; Refused and Legs, the adjustment call; Lists, Holding, Lent, Sized and Bounded, sections in arrays
--- and the sizes of their figures; Orders, the table of orders; Walks, steps of proofs by hand. LegArray serves the adjustment call.
+-- and the sizes of their figures; Classes, the table of classes; Walks, steps of proofs by hand. LegArray serves the adjustment call.
 pub mod Classes
 pub mod Lines
 pub mod Lists

@@ -32,8 +32,8 @@ fn is_outside(strict: bool, height: i64, distance: i64, discrepancy: i64) -> boo
     !((size <= 50000000) & long & (magnitude(discrepancy) <= 100000))
 }
 
-// Whether any of the first count sections is; a section's Q, R and D stand in the same place of the three lists. They are lent because this is
-// asked of a book at every call.
+// Whether any of the first count sections is; a section's Q, R and D stand in the same place of the three lists. They are lent, not
+// copied: this is asked of a book that may be closed.
 pub(crate) fn any_outside<'a>(
     strict: bool,
     count: usize,

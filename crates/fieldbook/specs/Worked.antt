@@ -1,4 +1,4 @@
--- Case A of document 01, worked: the bytes of its text give the bytes of its report, both written out as they stand in a file.
+-- Case A of document 01, with the collimation test of document 02, W-204, worked: the bytes of its text give the bytes of its report, both written out as they stand in a file.
 use mathlib.Core.Path.{_≡_, refl}
 use mathlib.Core.List.{List}
 use mathlib.Core.List as Lists

@@ -37,6 +37,7 @@ pub record Awaited : Type 0 where
 
 pub record Reading : Type 0 where
   pub stage : Stage
+  -- and whether the level's collimation was tested since
   pub opening : Opening
   -- the end height; a placeholder until the line is closed, and on a spur
   pub end : ℤ
@@ -163,7 +164,7 @@ refusal r c = Rules.refusal (plainState r) c
 abbrev pub next : Reading → Call → Reading
 next r c = cond (eqb (refusal r c) 0) (taken r c) r
 
--- nothing is opened: the class, the instrument, the start and the end height are placeholders, which decide nothing before a line is opened
+-- nothing is opened: what stands in the opening and the end height are placeholders, which decide nothing before a line is opened
 abbrev pub freshReading : Reading
 freshReading =
     record {

@@ -1,4 +1,4 @@
--- The answer of a call, and document 01's number of it.
+-- The answer of a call, and its refusal number.
 use mathlib.Core.Bool.{cond}
 use Prim.Native.Nat.{ℕ}
 use lib.Dec.{eqb}

@@ -21,13 +21,13 @@ pub enum Tag {
     Ang,
 }
 
-// What an entry of a book is: a record with this tag, or none and refused with this number of document 01.
+// What an entry of a book is: a record with this tag, or none and refused with this number.
 pub enum Kind {
     Record(Tag),
     Refused(u8),
 }
 
-// A call's answer: it is taken, or refused with this number of document 01.
+// A call's answer: it is taken, or refused with this number.
 pub enum Answer {
     Taken,
     Refused(u8),

@@ -22,7 +22,7 @@ pub record LineState : Type 0 where
   pub line : Line
   pub sections : List Section
 
--- what a book holds, and the book b holding v in its place
+-- what a book holds
 abbrev pub stateOf : Book → LineState
 stateOf b = record { line = b .line; sections = sectionsOf (b .sections) }
 
@@ -34,6 +34,7 @@ bookIn l count ns hs ds es =
 abbrev pub stateIn : Line → ℕ → List ℤ → List ℤ → List ℤ → List ℤ → LineState
 stateIn l count ns hs ds es = stateOf (bookIn l count ns hs ds es)
 
+-- the book b holding v in its place
 abbrev pub bookWith : Book → LineState → Book
 bookWith b v = record { line = v .line; sections = holding (b .sections) (v .sections) }
 

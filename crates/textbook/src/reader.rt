@@ -1,5 +1,5 @@
 // A text book read by a reader that holds the lent text. The functions that hold a reader are proved by hand: they copy and call. What is read from a line on
-// is in `reading`.
+// is in `text`.
 ghost use mathlib.Core.Path.{_≡_};
 ghost use Rattle.columns.specs.Texts.{lines};
 ghost use Rattle.textbook.specs.code.State.{textFrom, textState, textRead};
