@@ -6,19 +6,20 @@ use native.Mathlib.Omega.{arith}
 use lib.Dec.{eqb}
 use lib.IntN.{ℤ}
 use Rattle.numbers.proofs.Tables.{zero-cond, number-cond, cond-of}
+use Rattle.station.specs.declared.Staffs.{Staffs}
 use Rattle.station.specs.declared.Figures.{Figures}
 use Rattle.station.specs.declared.Readings.{Readings}
 use Rattle.station.specs.declared.Readings.the-variants.{Station, Refused}
 use Rattle.station.specs.Station.{stationOf, figuresOf, readingRefusal, readNumber, readFigures, readOf, Reads}
 
-module _ (kb kf : ℤ) (readings : List (List ℤ)) where
+module _ (c : Staffs) (kb kf : ℤ) (readings : List (List ℤ)) where
   abbrev number : ℕ
   number = readingRefusal kb kf readings
 
   abbrev figures : Figures
-  figures = figuresOf (stationOf kb kf readings)
+  figures = figuresOf c (stationOf kb kf readings)
 
-  pub reads : {r : Readings} → r ≡ readOf kb kf readings → Reads kb kf readings r
+  pub reads : {r : Readings} → r ≡ readOf c kb kf readings → Reads c kb kf readings r
   reads e = (
     e,
     (
@@ -27,11 +28,11 @@ module _ (kb kf : ℤ) (readings : List (List ℤ)) where
     ),
   )
 
-  not-refused : {r : Readings} → Reads kb kf readings r → readNumber r ≡ 0 → r ≡ Station figures
+  not-refused : {r : Readings} → Reads c kb kf readings r → readNumber r ≡ 0 → r ≡ Station figures
   not-refused h e = h .0 ∙ zero-cond number (Station figures) (Refused number) (sym (h .1 .0) ∙ e)
 
-  pub of-station : {f : Figures} → Reads kb kf readings (Station f) → (number ≡ 0) × (f ≡ figures)
+  pub of-station : {f : Figures} → Reads c kb kf readings (Station f) → (number ≡ 0) × (f ≡ figures)
   of-station h = let e = not-refused h refl in (sym (h .1 .0), cc)
 
-  pub of-refused : {n : ℕ} → Reads kb kf readings (Refused n) → (n ≡ number) × (n ≡ 0 → ⊥)
+  pub of-refused : {n : ℕ} → Reads c kb kf readings (Refused n) → (n ≡ number) × (n ≡ 0 → ⊥)
   of-refused h = (h .1 .0, λ z. let e = not-refused h z in let clash : _≡_ {A = ℕ} 0 1 = cc in omega arith)

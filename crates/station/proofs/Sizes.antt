@@ -1,17 +1,22 @@
 -- A station whose readings are not refused: its ranges and orders hold, so its readings and constants are small.
-use mathlib.Core.Path.{_≡_, refl, ap}
+use mathlib.Core.Path.{_≡_, refl, ap, _∙_}
 use mathlib.Core.Bool.{Bool, true, false, _&&_, _||_}
 use mathlib.Core.List.{List}
 use Prim.Native.Nat.{ℕ, _≤_}
 use native.Mathlib.Omega.{arith}
-use lib.IntN.{ℤ, pos, natAbs, _+ℤ_, _-ℤ_}
+use lib.IntN.{ℤ, pos, natAbs}
+use mir.Syntax.{w64}
+use mir.Val.{SFits, toZ}
 use Rattle.numbers.specs.Numbers.{between, eqZ}
 use Rattle.numbers.proofs.Tests.{and-l, and-r, not-false}
 use Rattle.numbers.proofs.Equal.{eqZ-eq}
-use Rattle.numbers.proofs.Sizes.{between-size, abs-add, abs-sub}
+use Rattle.numbers.proofs.Sizes.{between-size}
+use Rattle.numbers.proofs.Machine.{stored, stored-id}
+use Rattle.numbers.proofs.Chain.{Value, known, cast}
 use Rattle.numbers.proofs.Tables.{failed}
-use Rattle.station.specs.code.Bounds.{SmallSighting, Small}
-use Rattle.station.specs.Station.{Staff, Station, stationOf, sight, sightingOf, figuresOf, readingsInRange, constantsPaired, threadsInOrder, readingTests, readingRefusal}
+use Rattle.station.specs.declared.Staffs.{Staffs}
+use Rattle.station.specs.declared.Staffs.the-variants.{Nominal, Measured}
+use Rattle.station.specs.Station.{Staff, Station, stationOf, scaleOf, constantOf, readingsInRange, constantsPaired, threadsInOrder, readingTests, readingRefusal}
 
 pub record SmallStaff (s : Staff) : Type 0 where
   pub constant : natAbs (s .constant) ≤ 4787
@@ -89,37 +94,18 @@ read kb kf readings e =
     x : Station
     x = stationOf kb kf readings
 
--- ---- its figures are small
+-- ---- what `scale_of` and `constant_of` give, as an operation reads it
 
-sighting-small : {s : Staff} → SmallStaff s → SmallSighting (sightingOf s)
-sighting-small {s} h =
-    record {
-      sight = omega (arith, abs-sub (s .upper) (s .lower), h .upper, h .lower);
-      face = omega (arith, abs-sub (s .constant +ℤ s .black) (s .red), abs-add (s .constant) (s .black), h .constant, h .black, h .red);
-    }
+pub scale-size : (c : Staffs) → scaleOf c ≤ 10
+scale-size Nominal = omega arith
+scale-size (Measured first second) = omega arith
 
-pub figures-small : {x : Station} → Read x → Small (figuresOf x)
-figures-small {x} h =
-    let back = sighting-small (h .back) in
-    let fore = sighting-small (h .fore) in
-    let b = x .back in
-    let f = x .fore in
-    record {
-      back = back;
-      fore = fore;
-      difference = omega (arith, abs-sub (sight b) (sight f), back .sight, fore .sight);
-      height = omega (
-        arith,
-        abs-sub ((b .black -ℤ f .black) +ℤ (b .red -ℤ f .red)) (b .constant -ℤ f .constant),
-        abs-add (b .black -ℤ f .black) (b .red -ℤ f .red),
-        abs-sub (b .black) (f .black),
-        abs-sub (b .red) (f .red),
-        abs-sub (b .constant) (f .constant),
-        h .back .black,
-        h .fore .black,
-        h .back .red,
-        h .fore .red,
-        h .back .constant,
-        h .fore .constant,
-      );
-    }
+pub scale-value : (c : Staffs) {n : ℕ} → n ≡ scaleOf c → Value (toZ w64 n) (pos (scaleOf c)) 10
+scale-value c {n} e = let v = cast n {k = 10} (omega (arith, e, scale-size c)) tt in record { is = v .is ∙ ap pos e; size = scale-size c }
+
+pub constant-value : (c : Staffs) (k : ℤ) {z : ℤ} → SFits w64 k → natAbs k ≤ 4787
+    → (z ≡ constantOf c (stored k)) × (natAbs (stored k) ≤ 65535 → natAbs z ≤ 65535) → Value (stored z) (constantOf c k) 65535
+constant-value c k {z} f h given =
+    let is = given .0 ∙ ap (constantOf c) (stored-id f) in
+    let small = given .1 (omega (arith, h, ap natAbs (stored-id f))) in
+    record { is = known z {k = 65535} small tt .is ∙ is; size = omega (arith, small, ap natAbs is) }

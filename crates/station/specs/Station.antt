@@ -2,10 +2,10 @@
 use mathlib.Core.Path.{_≡_}
 use mathlib.Core.Bool.{Bool, not, cond, _&&_, _||_}
 use mathlib.Core.List.{List, [], _∷_}
-use Prim.Native.Nat.{ℕ}
+use Prim.Native.Nat.{ℕ, _*_}
 use lib.ListN.{getD}
 use lib.Dec.{eqb}
-use lib.IntN.{ℤ, pos, _+ℤ_, _-ℤ_}
+use lib.IntN.{ℤ, pos, _+ℤ_, _-ℤ_, _*ℤ_}
 use lib.Signed.{ltZ}
 use Rattle.numbers.specs.Numbers.{within, between, eqZ}
 use Rattle.numbers.specs.Tables.{firstOf}
@@ -13,13 +13,29 @@ use Rattle.station.specs.declared.Order.{Order}
 use Rattle.station.specs.declared.Order.the-variants.{Third, Fourth}
 use Rattle.station.specs.declared.Instrument.{Instrument}
 use Rattle.station.specs.declared.Instrument.the-variants.{Ds3, Ds1}
+use Rattle.station.specs.declared.Staffs.{Staffs}
+use Rattle.station.specs.declared.Staffs.the-variants.{Nominal, Measured}
 use Rattle.station.specs.declared.Limits.{Limits}
 use Rattle.station.specs.declared.Sighting.{Sighting}
 use Rattle.station.specs.declared.Figures.{Figures}
 use Rattle.station.specs.declared.Readings.{Readings}
 use Rattle.station.specs.declared.Readings.the-variants as Readings
 
--- a staff's constant K and its four readings, in mm
+-- the parts of a millimetre in which the staffs' constants are given
+abbrev pub scaleOf : Staffs → ℕ
+scaleOf Nominal = 1
+scaleOf (Measured first second) = 10
+
+-- the constant of the staff that a station names by its nominal one, in these parts
+abbrev pub constantOf : Staffs → ℤ → ℤ
+constantOf Nominal k = k
+constantOf (Measured first second) k = cond (eqZ k (pos 4687)) (pos first) (pos second)
+
+-- millimetres in these parts
+abbrev pub inParts : Staffs → ℤ → ℤ
+inParts c x = pos (scaleOf c) *ℤ x
+
+-- a staff's constant K, the nominal one, and its four readings, in mm
 pub record Staff : Type 0 where
   pub constant : ℤ
   pub upper : ℤ
@@ -53,14 +69,15 @@ sightDifference x = sight (x .back) -ℤ sight (x .fore)
 abbrev pub sights : Station → ℤ
 sights x = sight (x .back) +ℤ sight (x .fore)
 
--- e, mm
-abbrev pub faceDifference : Staff → ℤ
-faceDifference s = s .constant +ℤ s .black -ℤ s .red
+-- e, mm, or the part of it in which the constants are given
+abbrev pub faceDifference : Staffs → Staff → ℤ
+faceDifference c s = constantOf c (s .constant) +ℤ inParts c (s .black) -ℤ inParts c (s .red)
 
--- twice the station height ('twice-height'), half mm
-abbrev pub twiceHeight : Station → ℤ
-twiceHeight x =
-    (x .back .black -ℤ x .fore .black) +ℤ (x .back .red -ℤ x .fore .red) -ℤ (x .back .constant -ℤ x .fore .constant)
+-- twice the station height ('twice-height'), half mm, or half of that part
+abbrev pub twiceHeight : Staffs → Station → ℤ
+twiceHeight c x =
+    (inParts c (x .back .black) -ℤ inParts c (x .fore .black)) +ℤ (inParts c (x .back .red) -ℤ inParts c (x .fore .red))
+    -ℤ (constantOf c (x .back .constant) -ℤ constantOf c (x .fore .constant))
 
 -- ---- what the input alone causes
 
@@ -91,16 +108,16 @@ sightLimit Third Ds1 = 1000
 sightLimit Fourth Ds3 = 1000
 sightLimit Fourth Ds1 = 1500
 
-abbrev pub limitsOf : Order → Instrument → Limits
-limitsOf Third instrument = record { sight = sightLimit Third instrument; difference = 20; accumulated = 50; face = 2; faces = 3 }
-limitsOf Fourth instrument = record { sight = sightLimit Fourth instrument; difference = 30; accumulated = 100; face = 3; faces = 5 }
+abbrev pub limitsOf : Order → Instrument → Staffs → Limits
+limitsOf Third instrument c = record { sight = sightLimit Third instrument; difference = 20; accumulated = 50; face = 2 * scaleOf c; faces = 3 * scaleOf c }
+limitsOf Fourth instrument c = record { sight = sightLimit Fourth instrument; difference = 30; accumulated = 100; face = 3 * scaleOf c; faces = 5 * scaleOf c }
 
-abbrev pub sightingOf : Staff → Sighting
-sightingOf s = record { sight = sight s; face = faceDifference s }
+abbrev pub sightingOf : Staffs → Staff → Sighting
+sightingOf c s = record { sight = sight s; face = faceDifference c s }
 
-abbrev pub figuresOf : Station → Figures
-figuresOf x =
-    record { back = sightingOf (x .back); fore = sightingOf (x .fore); difference = sightDifference x; height = twiceHeight x }
+abbrev pub figuresOf : Staffs → Station → Figures
+figuresOf c x =
+    record { back = sightingOf c (x .back); fore = sightingOf c (x .fore); difference = sightDifference x; height = twiceHeight c x }
 
 -- all inclusive, on absolute values; `accumulated` is the sum of d before this station
 abbrev pub limitTests : Limits → ℤ → Figures → List (ℕ × Bool)
@@ -130,11 +147,11 @@ readFigures (Readings.Refused n) = []
 abbrev pub readAs : ℕ → Figures → Readings
 readAs n f = cond (eqb n 0) (Readings.Station f) (Readings.Refused n)
 
-abbrev pub readOf : ℤ → ℤ → List (List ℤ) → Readings
-readOf kb kf readings = readAs (readingRefusal kb kf readings) (figuresOf (stationOf kb kf readings))
+abbrev pub readOf : Staffs → ℤ → ℤ → List (List ℤ) → Readings
+readOf c kb kf readings = readAs (readingRefusal kb kf readings) (figuresOf c (stationOf kb kf readings))
 
 -- r is that answer, and has, by `readNumber` and `readFigures`, document 01's number and the station's figures
-abbrev pub Reads : ℤ → ℤ → List (List ℤ) → Readings → Type 0
-Reads kb kf readings r =
+abbrev pub Reads : Staffs → ℤ → ℤ → List (List ℤ) → Readings → Type 0
+Reads c kb kf readings r =
     let n : ℕ = readingRefusal kb kf readings in
-    (r ≡ readOf kb kf readings) × ((readNumber r ≡ n) × (readFigures r ≡ cond (eqb n 0) (figuresOf (stationOf kb kf readings) ∷ []) []))
+    (r ≡ readOf c kb kf readings) × ((readNumber r ≡ n) × (readFigures r ≡ cond (eqb n 0) (figuresOf c (stationOf kb kf readings) ∷ []) []))

@@ -7,7 +7,8 @@ ghost use lib.Dec.{leb};
 ghost use lib.IntN.{pos, natAbs, _+ℤ_, _-ℤ_};
 ghost use Rattle.numbers.specs.Numbers.{within};
 ghost use Rattle.numbers.specs.Tables.{firstOf};
-ghost use Rattle.station.specs.Station.{staffOf, stationOf, sightingOf, twiceHeight, figuresOf, readingsInRange, threadsInOrder, constantsPaired, readingRefusal, Reads, sightLimit, limitsOf, limitTests};
+ghost use Rattle.station.specs.code.Bounds.{SmallSighting, Small, SmallReadings};
+ghost use Rattle.station.specs.Station.{staffOf, stationOf, sightingOf, twiceHeight, figuresOf, readingsInRange, threadsInOrder, constantsPaired, readingRefusal, Reads, scaleOf, constantOf, sightLimit, limitsOf, limitTests};
 use roots::limits::magnitude;
 
 pub enum Order {
@@ -21,7 +22,13 @@ pub enum Instrument {
     Ds1,
 }
 
-// The limits that an order and an instrument set: dm for sights, mm for faces.
+// The constants of the two staffs: the nominal 4,687 and 4,787 mm, or those that were measured, in tenths of a millimetre, of the staff 4,687 first.
+pub enum Staffs {
+    Nominal,
+    Measured(u16, u16),
+}
+
+// The limits that an order and an instrument set: dm for sights; for faces mm, or the part of it in which the constants are given.
 pub struct Limits {
     pub sight: u64,
     pub difference: u64,
@@ -30,13 +37,13 @@ pub struct Limits {
     pub faces: u64,
 }
 
-// What one staff shows: its sight in dm and its face difference e in mm.
+// What one staff shows: its sight in dm and its face difference e in mm, or in that part.
 pub struct Sighting {
     pub sight: i64,
     pub face: i64,
 }
 
-// Both staffs, d in dm, and twice the station height in half mm.
+// Both staffs, d in dm, and twice the station height in half mm, or in half of that part.
 pub struct Figures {
     pub back: Sighting,
     pub fore: Sighting,
@@ -89,34 +96,67 @@ fn reading_refusal(kb: i64, kf: i64, readings: [[i64; 4]; 2]) -> u8
     pick(!(in_range(back) & in_range(fore)), 6, constants)
 }
 
-// The sight and face difference of a staff with the constant k.
-fn sighting_of(k: i64, t: [i64; 4]) -> Sighting
-    requires { ⌜ (natAbs k ≤ 4787) × (readingsInRange (staffOf k t) ≡ true) ⌝ }
-    ensures { λ r. ⌜ r ≡ sightingOf (staffOf k t) ⌝ }
+// The parts of a millimetre in which the constants are given: 1 or 10.
+pub fn scale_of(staffs: Staffs) -> u64
+    ensures { λ r. ⌜ r ≡ scaleOf staffs ⌝ }
 {
+    match staffs {
+        Staffs::Nominal => 1,
+        Staffs::Measured(_, _) => 10,
+    }
+}
+
+// The constant of the staff with the nominal one k.
+fn constant_of(staffs: Staffs, k: i64) -> i64
+    ensures { λ r. ⌜ r ≡ constantOf staffs k ⌝ }
+    ensures { λ r. ⌜ (natAbs k ≤ 65535 → natAbs r ≤ 65535) ⌝ }
+{
+    match staffs {
+        Staffs::Nominal => k,
+        Staffs::Measured(first, second) => {
+            if k == 4687 {
+                first as i64
+            } else {
+                second as i64
+            }
+        }
+    }
+}
+
+// The sight and face difference of a staff with the nominal constant k.
+fn sighting_of(staffs: Staffs, k: i64, t: [i64; 4]) -> Sighting
+    requires { ⌜ (natAbs k ≤ 4787) × (readingsInRange (staffOf k t) ≡ true) ⌝ }
+    ensures { λ r. ⌜ r ≡ sightingOf staffs (staffOf k t) ⌝ }
+    ensures { λ r. ⌜ SmallSighting r ⌝ }
+{
+    let scale = scale_of(staffs) as i64;
     Sighting {
         sight: t[0] - t[1],
-        face: k + t[2] - t[3],
+        face: constant_of(staffs, k) + scale * (t[2] - t[3]),
     }
 }
 
 // Twice the height of a station, from its middle readings.
-fn twice_height(kb: i64, kf: i64, readings: [[i64; 4]; 2]) -> i64
+fn twice_height(staffs: Staffs, kb: i64, kf: i64, readings: [[i64; 4]; 2]) -> i64
     requires { ⌜ readingRefusal kb kf readings ≡ 0 ⌝ }
-    ensures { λ r. ⌜ r ≡ twiceHeight (stationOf kb kf readings) ⌝ }
+    ensures { λ r. ⌜ r ≡ twiceHeight staffs (stationOf kb kf readings) ⌝ }
+    ensures { λ r. ⌜ natAbs r ≤ 351050 ⌝ }
 {
     let back = readings[0];
     let fore = readings[1];
-    (back[2] - fore[2]) + (back[3] - fore[3]) - (kb - kf)
+    let scale = scale_of(staffs) as i64;
+    let constants = constant_of(staffs, kb) - constant_of(staffs, kf);
+    scale * ((back[2] - fore[2]) + (back[3] - fore[3])) - constants
 }
 
-fn computed(kb: i64, kf: i64, readings: [[i64; 4]; 2]) -> Figures
+fn computed(staffs: Staffs, kb: i64, kf: i64, readings: [[i64; 4]; 2]) -> Figures
     requires { ⌜ readingRefusal kb kf readings ≡ 0 ⌝ }
-    ensures { λ r. ⌜ r ≡ figuresOf (stationOf kb kf readings) ⌝ }
+    ensures { λ r. ⌜ r ≡ figuresOf staffs (stationOf kb kf readings) ⌝ }
+    ensures { λ r. ⌜ Small r ⌝ }
 {
-    let height = twice_height(kb, kf, readings);
-    let back = sighting_of(kb, readings[0]);
-    let fore = sighting_of(kf, readings[1]);
+    let height = twice_height(staffs, kb, kf, readings);
+    let back = sighting_of(staffs, kb, readings[0]);
+    let fore = sighting_of(staffs, kf, readings[1]);
     let difference = back.sight - fore.sight;
     Figures {
         back: back,
@@ -127,14 +167,15 @@ fn computed(kb: i64, kf: i64, readings: [[i64; 4]; 2]) -> Figures
 }
 
 // A station's figures, or the refusal that its readings and constants alone cause: 6, 7 or 8.
-pub fn read(kb: i64, kf: i64, readings: [[i64; 4]; 2]) -> Readings
-    ensures { λ r. ⌜ Reads kb kf readings r ⌝ }
+pub fn read(staffs: Staffs, kb: i64, kf: i64, readings: [[i64; 4]; 2]) -> Readings
+    ensures { λ r. ⌜ Reads staffs kb kf readings r ⌝ }
+    ensures { λ r. ⌜ SmallReadings r ⌝ }
 {
     let number = reading_refusal(kb, kf, readings);
     if number != 0 {
         return Readings::Refused(number);
     }
-    Readings::Station(computed(kb, kf, readings))
+    Readings::Station(computed(staffs, kb, kf, readings))
 }
 
 fn sight_limit(order: Order, instrument: Instrument) -> u64
@@ -152,24 +193,25 @@ fn sight_limit(order: Order, instrument: Instrument) -> u64
     }
 }
 
-fn limits_of(order: Order, instrument: Instrument) -> Limits
-    ensures { λ r. ⌜ r ≡ limitsOf order instrument ⌝ }
+fn limits_of(order: Order, instrument: Instrument, staffs: Staffs) -> Limits
+    ensures { λ r. ⌜ r ≡ limitsOf order instrument staffs ⌝ }
 {
     let sight = sight_limit(order, instrument);
+    let scale = scale_of(staffs);
     match order {
         Order::Third => Limits {
             sight: sight,
             difference: 20,
             accumulated: 50,
-            face: 2,
-            faces: 3,
+            face: 2 * scale,
+            faces: 3 * scale,
         },
         Order::Fourth => Limits {
             sight: sight,
             difference: 30,
             accumulated: 100,
-            face: 3,
-            faces: 5,
+            face: 3 * scale,
+            faces: 5 * scale,
         },
     }
 }
@@ -219,10 +261,16 @@ fn difference_within(x: i64, y: i64, limit: u64) -> bool
 }
 
 // The refusal that the limits of an order and an instrument cause to any figures: 24 to 28, or 0. accumulated is the sum of d before this station.
-pub fn judge(order: Order, instrument: Instrument, accumulated: i64, f: Figures) -> u8
-    ensures { λ r. ⌜ r ≡ firstOf (limitTests (limitsOf order instrument) accumulated f) ⌝ }
+pub fn judge(
+    order: Order,
+    instrument: Instrument,
+    staffs: Staffs,
+    accumulated: i64,
+    f: Figures,
+) -> u8
+    ensures { λ r. ⌜ r ≡ firstOf (limitTests (limitsOf order instrument staffs) accumulated f) ⌝ }
 {
-    let l = limits_of(order, instrument);
+    let l = limits_of(order, instrument, staffs);
     let faces = pick(!difference_within(f.back.face, f.fore.face, l.faces), 28, 0);
     let face = pick(!both_within(f.back.face, f.fore.face, l.face), 27, faces);
     let sum = pick(

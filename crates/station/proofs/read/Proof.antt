@@ -22,9 +22,11 @@ returns : tie.Need-returns
 returns c =
     let a = c .before .before .args in
     let n = readingRefusal (a .kb) (a .kf) (a .readings) in
-    let e = number (c .before) in
-    reads (a .kb) (a .kf) (a .readings)
-    (ap Refused e ∙ sym (nonzero-cond n (Station (figuresOf (stationOf (a .kb) (a .kf) (a .readings)))) (Refused n) (λ z. c .if1 .taken (e ∙ z))))
+    let e = number (c .before) in (
+      reads (a .staffs) (a .kb) (a .kf) (a .readings)
+          (ap Refused e ∙ sym (nonzero-cond n (Station (figuresOf (a .staffs) (stationOf (a .kb) (a .kf) (a .readings)))) (Refused n) (λ z. c .if1 .taken (e ∙ z)))),
+      tt,
+    )
 
 computed-requires : tie.Need-computed-requires
 computed-requires c κs = search needs
@@ -34,9 +36,12 @@ returns-2 c =
     let s = c .before .before .before in
     let a = s .args in
     let n = readingRefusal (a .kb) (a .kf) (a .readings) in
-    let figures = c .computed .ensures ∙ stored-both (λ b f. figuresOf (stationOf b f (a .readings))) (s .fits .kb) (s .fits .kf) in
-    reads (a .kb) (a .kf) (a .readings)
-    (ap Station figures ∙ sym (zero-cond n (Station (figuresOf (stationOf (a .kb) (a .kf) (a .readings)))) (Refused n) (sym (number (c .before .before)) ∙ c .before .if1 .left)))
+    let figures = c .computed .ensures .0 ∙ stored-both (λ b f. figuresOf (a .staffs) (stationOf b f (a .readings))) (s .fits .kb) (s .fits .kf) in (
+      reads (a .staffs) (a .kb) (a .kf) (a .readings)
+          (ap Station figures
+          ∙ sym (zero-cond n (Station (figuresOf (a .staffs) (stationOf (a .kb) (a .kf) (a .readings)))) (Refused n) (sym (number (c .before .before)) ∙ c .before .if1 .left))),
+      c .computed .ensures .1,
+    )
 
 pub read-spec : {M : Type 1} → statement M
 read-spec = tie.close (tie.spec reading-refusal-requires returns computed-requires returns-2)
