@@ -16,6 +16,7 @@ pub mod table;
 pub mod terms;
 
 use station::Instrument;
+use station::Staffs;
 use terms::Class;
 
 pub struct Benchmark {
@@ -23,11 +24,12 @@ pub struct Benchmark {
     pub height: i64,
 }
 
-// What a line is opened with, and whether its level's collimation was tested since.
+// What a line is opened with, its staffs' constants, and whether its level's collimation was tested since.
 pub struct Opening {
     pub class: Class,
     pub instrument: Instrument,
     pub start: Benchmark,
+    pub staffs: Staffs,
     pub collimated: bool,
 }
 

@@ -12,6 +12,7 @@ use Rattle.numbers.specs.Tables.{firstOf}
 use Rattle.records.specs.Answers.{numberOf, answerOf}
 use Rattle.adjust.specs.declared.terms.Class.the-variants.{Fourth}
 use Rattle.station.specs.declared.Instrument.the-variants.{Ds3}
+use Rattle.station.specs.declared.Staffs.the-variants.{Nominal}
 use Rattle.adjust.specs.declared.Summary.{Summary}
 use Rattle.adjust.specs.declared.Point.{Point}
 use Rattle.adjust.specs.Line.{Closing, closing}
@@ -34,7 +35,7 @@ freshBook =
       line =
           record {
             stage = Fresh;
-            opening = record { class = Fourth; instrument = Ds3; start = record { number = pos 0; height = pos 0 }; collimated = false };
+            opening = record { class = Fourth; instrument = Ds3; start = record { number = pos 0; height = pos 0 }; staffs = Nominal; collimated = false };
             end = pos 0;
             waiting = Nothing;
             present = noRun;

@@ -14,6 +14,7 @@ use rules::Run;
 use rules::Stage;
 use rules::Waiting;
 use station::Instrument;
+use station::Staffs;
 
 pub mod calls;
 mod storing;
@@ -68,6 +69,7 @@ pub fn fresh() -> Book
         class: Class::Fourth,
         instrument: Instrument::Ds3,
         start: start,
+        staffs: Staffs::Nominal,
         collimated: false,
     };
     let line = Line {

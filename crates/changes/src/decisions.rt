@@ -104,7 +104,9 @@ pub fn station_change(
 ) -> Change
     ensures { λ r. ⌜ r ≡ changeBy (bookRefusal (numbersIn line count (now (numbers .entry))) (station kb kf readings)) line (station kb kf readings) ⌝ }
 {
-    let read = station::read(kb, kf, readings);
+    let opening = line.opening;
+    let staffs = opening.staffs;
+    let read = station::read(staffs, kb, kf, readings);
     match read {
         Readings::Refused(number) => line_only(number, line),
         Readings::Station(f) => {

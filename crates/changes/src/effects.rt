@@ -21,6 +21,7 @@ use rules::Stage;
 use rules::Waiting;
 use station::Figures;
 use station::Instrument;
+use station::Staffs;
 
 fn no_run() -> Run
     ensures { λ r. ⌜ r ≡ noRun ⌝ }
@@ -78,6 +79,7 @@ pub(crate) fn opening_of(class: Class, instrument: i64, number: i64, height: i64
         class: class,
         instrument: instrument_of(instrument),
         start: start,
+        staffs: Staffs::Nominal,
         collimated: false,
     }
 }

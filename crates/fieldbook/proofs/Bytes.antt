@@ -73,9 +73,9 @@ result-short r = go (isClosed (r .stage))
 -- a line for each section and two more
 closing-count : (r : Reading) → length (closingLines (figuresOf r)) ≡ suc (suc (length (r .sections)))
 closing-count r =
-    let ss = map sectionOf (r .sections) in
+    let ss = map (sectionOf (r .opening .staffs)) (r .sections) in
     let f = lineFrame (r .opening) (r .end) ss in
-    ap suc (length-map (figuresOf r .points) pointLine) ∙ ap (λ (n : ℕ). suc (suc n)) (points-length f (pos 0) (pos 0) (f .prints *ℤ f .start) ss ∙ length-map (r .sections) sectionOf)
+    ap suc (length-map (figuresOf r .points) pointLine) ∙ ap (λ (n : ℕ). suc (suc n)) (points-length f (pos 0) (pos 0) (f .prints *ℤ f .start) ss ∙ length-map (r .sections) (sectionOf (r .opening .staffs)))
 
 result-few : (r : Reading) → length (resultLines r) ≤ least r + 1
 result-few r = go (r .stage)

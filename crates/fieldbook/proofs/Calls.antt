@@ -59,7 +59,7 @@ text-as-made ls b e ns gs f t = (numbers-calls freshReading (entries ls) ∙ sym
     open-made k n =
         ap (λ (x : Bool). cond x (closingLines (figuresOf r)) (openLine (length (r .sections)) ∷ [])) k
         ∙ ap (λ (m : ℕ). openLine m ∷ [])
-        (ap (λ (s : Reading). length (s .sections)) same ∙ sym (length-map (after freshReading calls .sections) sectionOf) ∙ ap (λ (x : Book). x .sections .count) (sym (sound .book)))
+        (ap (λ (s : Reading). length (s .sections)) same ∙ sym (length-map (after freshReading calls .sections) (sectionOf (after freshReading calls .opening .staffs))) ∙ ap (λ (x : Book). x .sections .count) (sym (sound .book)))
         ∙ ap (λ (l : List Closing). madeLines l e) (sym (sound .given ∙ none-given calls freshReading (λ c. n (ap (λ (s : Reading). s .stage) same ∙ c))))
 
     go : (s : Stage) → r .stage ≡ s → resultLines r ≡ madeLines gs e

@@ -15,6 +15,7 @@ use Rattle.numbers.proofs.All.{All, all-head, all-tail}
 use Rattle.numbers.proofs.Parts.{ints, negPart, parts-add, parts-sub, parts-times, parts-abs}
 use Rattle.numbers.proofs.Sizes.{abs-add, abs-sub, abs-mul, square-abs, within-size}
 use Rattle.roots.proofs.RoundLaws.{round-mono, round-exact}
+use Rattle.station.specs.declared.Staffs.the-variants.{Nominal}
 use Rattle.adjust.specs.declared.terms.Class.{Class}
 use Rattle.adjust.specs.declared.terms.Class.the-variants.{Third, Fourth, Spur}
 use Rattle.adjust.specs.declared.Section.{Section}
@@ -32,11 +33,11 @@ pub record Narrow (x : Section) : Type 0 where
   pub number : natAbs (x .number) ≤ 9999
   pub height : natAbs (x .height) ≤ 4802400
 
-pub narrow-head : (x : Section) (xs : List Section) → All narrow (x ∷ xs) → Narrow x
+pub narrow-head : (x : Section) (xs : List Section) → All (narrow Nominal) (x ∷ xs) → Narrow x
 narrow-head x xs e =
     let n = within (x .number) 9999 in
     let q = within (x .height) 4802400 in
-    let h = all-head narrow x xs e in
+    let h = all-head (narrow Nominal) x xs e in
     record { number = within-size (x .number) 9999 (and-l n q h); height = within-size (x .height) 4802400 (and-r n q h) }
 
 -- ---- the line

@@ -60,7 +60,7 @@ module _ (r : Reading) (k : Kept (plainState r)) where
 
   sections-many : bookOf r .sections .count ≡ length (r .sections)
   unfolding holding
-  sections-many = length-map (r .sections) sectionOf
+  sections-many = length-map (r .sections) (sectionOf (r .opening .staffs))
 
   book-lines : bookLines (bookOf r) ≡ resultLines r
   book-lines =
@@ -108,7 +108,7 @@ calls-printable calls =
     k = calls-kept calls
 
     sections-kept : length (r .sections) ≤ 64
-    sections-kept = omega (arith, k .few, length-map (r .sections) sectionOf)
+    sections-kept = omega (arith, k .few, length-map (r .sections) (sectionOf (r .opening .staffs)))
 
 -- ---- a text
 

@@ -115,7 +115,7 @@ result-whole calls =
     let x = figuresOf r in
     all-cons whole (closedLine (x .summary)) (map pointLine (x .points))
     (is-whole (closedLine (x .summary)) (length-line (67 ∷ 76 ∷ 79 ∷ []) (closedNumbers (x .summary)) false (f .0))) (points-whole (x .points) (f .1)))
-    (λ b. all-cons whole (openLine n) [] (is-whole (openLine n) (open-long n (omega (arith, calls-kept calls .few, length-map (r .sections) sectionOf)))) refl)
+    (λ b. all-cons whole (openLine n) [] (is-whole (openLine n) (open-long n (omega (arith, calls-kept calls .few, length-map (r .sections) (sectionOf (r .opening .staffs)))))) refl)
   where
     r : Reading
     r = after freshReading calls

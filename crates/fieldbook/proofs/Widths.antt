@@ -12,6 +12,8 @@ use Rattle.numbers.proofs.Tests.{by-test, is-false, not-false}
 use Rattle.numbers.proofs.All.{All, all-cons, all-tail}
 use Rattle.numbers.proofs.Parts.{ints, parts-add, parts-abs, test-ge}
 use Rattle.numbers.proofs.Sizes.{abs-add, abs-mul}
+use Rattle.station.specs.declared.Staffs.{Staffs}
+use Rattle.station.specs.declared.Staffs.the-variants.{Nominal}
 use Rattle.adjust.specs.declared.terms.Class.{Class}
 use Rattle.adjust.specs.declared.Point.{Point}
 use Rattle.adjust.specs.declared.Summary.{Summary}
@@ -93,7 +95,7 @@ module _ (start closed total : ℤ) (begins : natAbs start ≤ 8999999) (closes 
   f = millimetres start closed total
 
   -- after running sums q and s, with the sums of the sections that follow still within those of a line
-  points-fit : (q s h : ℤ) (xs : List Section) → Fit xs → All narrow xs
+  points-fit : (q s h : ℤ) (xs : List Section) → Fit xs → All (narrow Nominal) xs
       → natAbs q + 4802400 * length xs ≤ 307353600 → pos 0 ≤ℤ s → (s +ℤ lineLength xs) ≤ℤ total
       → Near f q s xs (pointsAfter f q s h xs) → All pointFits (pointsAfter f q s h xs)
   points-fit q s h [] fit n hq hs ht near = refl
@@ -114,7 +116,7 @@ module _ (start closed total : ℤ) (begins : natAbs start ≤ 8999999) (closes 
       (point-fits (pointAfter f q s h x) (omega (arith, here .number)) (forward, omega (ints, in-line, short, some, parts-abs total, parts-abs s₂))
       (omega (arith, correction-small start closed total begins closes some (pointAfter f q s h x .correction) (x .distance) (le-trans part in-line) correction))
       (omega (arith, height-small start closed total begins closes some q₂ s₂ g (omega (arith, sum)) in-line height)))
-      (points-fit q₂ s₂ g xs (fit-tail x xs fit) (all-tail narrow x xs n) sum forward on near)
+      (points-fit q₂ s₂ g xs (fit-tail x xs fit) (all-tail (narrow Nominal) x xs n) sum forward on near)
 
 -- ---- a line that is closed, whose W is small
 
@@ -153,7 +155,7 @@ module _ (v : LineState) (i : Kept v) (shut : v .line .stage ≡ Closed) (small 
   all-fit =
       all-cons pointFits _ (sectionPoints framed ss)
       (point-fits _ (omega (arith, i .number)) (omega ints, omega ints) (omega arith) (omega (arith, begins, abs-mul (pos 1) start)))
-      (points-fit start (framed .closure) (lineLength ss) begins small some short (pos 0) (pos 0) (pos 1 *ℤ start) ss fit (i .narrow-sections) (omega (arith, i .few)) (omega ints)
+      (points-fit start (framed .closure) (lineLength ss) begins small some short (pos 0) (pos 0) (pos 1 *ℤ start) ss fit (subst (λ (c : Staffs). All (narrow c) ss) (i .nominal) (i .narrow-sections)) (omega (arith, i .few)) (omega ints)
       (omega (ints, parts-add (pos 0) (lineLength ss))) (line-near ss some (v .line .opening) (v .line .end)))
 
 -- W is small where END was taken, by the test 36, and 0 where FIN was

@@ -7,6 +7,7 @@ use lib.IntN.{ℤ, pos, _+ℤ_, +ℤ-assoc, +ℤ-comm}
 use Rattle.numbers.specs.Numbers.{sum, lastOf}
 use Rattle.adjust.specs.declared.terms.Class.{Class}
 use Rattle.adjust.specs.declared.terms.Class.the-variants.{Third, Fourth, Spur}
+use Rattle.station.specs.declared.Staffs.{Staffs}
 use Rattle.station.specs.Station.{Station, stationOf, figuresOf, sights, sightDifference, twiceHeight}
 use Rattle.adjust.specs.declared.Section.{Section}
 use Rattle.rules.specs.declared.Waiting.the-variants.{Nothing}
@@ -22,7 +23,7 @@ abbrev pub recast : Reading → Class → Option Awaited → Reading
 recast r class waiting =
     record {
       stage = r .stage;
-      opening = record { class = class; instrument = r .opening .instrument; start = r .opening .start; collimated = r .opening .collimated };
+      opening = record { class = class; instrument = r .opening .instrument; start = r .opening .start; staffs = r .opening .staffs; collimated = r .opening .collimated };
       end = r .end;
       sections = r .sections;
       waiting = waiting;
@@ -39,11 +40,11 @@ last-append : (f : Station → ℤ) (a : ℤ) (xs : List Station) (x : Station) 
 last-append f a [] x = refl
 last-append f a (y ∷ ys) x = last-append f (f y) ys x
 
-pub run-append : (xs : List Station) (x : Station) → runOf (xs ++ (x ∷ [])) ≡ withStation (runOf xs) (figuresOf x) (x .fore .constant)
-run-append xs x = λ i.
+pub run-append : (c : Staffs) (xs : List Station) (x : Station) → runOf c (xs ++ (x ∷ [])) ≡ withStation (runOf c xs) (figuresOf c x) (x .fore .constant)
+run-append c xs x = λ i.
     record {
       count = length-append xs (x ∷ []) i;
-      height = sum-append twiceHeight xs x i;
+      height = sum-append (twiceHeight c) xs x i;
       sights = sum-append sights xs x i;
       difference = sum-append sightDifference xs x i;
       last = last-append (λ (y : Station). y .fore .constant) (pos 0) xs x i;
@@ -51,12 +52,12 @@ run-append xs x = λ i.
 
 -- ---- one section more
 
-pub section-append : (xs : List Levelled) (x : Levelled) → map sectionOf (xs ++ (x ∷ [])) ≡ map sectionOf xs ++ (sectionOf x ∷ [])
-section-append [] x = refl
-section-append (y ∷ ys) x = ap (λ (l : List Section). sectionOf y ∷ l) (section-append ys x)
+pub section-append : (c : Staffs) (xs : List Levelled) (x : Levelled) → map (sectionOf c) (xs ++ (x ∷ [])) ≡ map (sectionOf c) xs ++ (sectionOf c x ∷ [])
+section-append c [] x = refl
+section-append c (y ∷ ys) x = ap (λ (l : List Section). sectionOf c y ∷ l) (section-append c ys x)
 
-finished : (r : Reading) (x : Levelled) → plainState (withLists r (r .sections ++ (x ∷ [])) none []) ≡ withSection (plainState r) (sectionOf x)
-finished r x = λ i. record { line = withRuns (plainState r .line) Nothing noRun; sections = section-append (r .sections) x i }
+finished : (r : Reading) (x : Levelled) → plainState (withLists r (r .sections ++ (x ∷ [])) none []) ≡ withSection (plainState r) (sectionOf (r .opening .staffs) x)
+finished r x = λ i. record { line = withRuns (plainState r .line) Nothing noRun; sections = section-append (r .opening .staffs) (r .sections) x i }
 
 ended : (r : Reading) (class : Class) (waiting : Option Awaited) (n : ℤ)
     → plainState (Plain.runEnded (recast r class waiting) n) ≡ Rules.runEnded (plainState (recast r class waiting)) n
@@ -70,7 +71,7 @@ pub follows : (r : Reading) (c : Call) → plainState (Plain.taken r c) ≡ Rule
 follows r (open-line order instrument number height) = refl
 follows r (station kb kf readings) =
     let v : LineState = plainState r in
-    λ i. record { line = withRuns (v .line) (v .line .waiting) (run-append (r .present) (stationOf kb kf readings) i); sections = v .sections }
+    λ i. record { line = withRuns (v .line) (v .line .waiting) (run-append (r .opening .staffs) (r .present) (stationOf kb kf readings) i); sections = v .sections }
 follows r (end-run number) = ended r (r .opening .class) (r .waiting) number
 follows r drop-run = refl
 follows r drop-section = refl

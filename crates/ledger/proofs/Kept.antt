@@ -15,6 +15,8 @@ use Rattle.numbers.proofs.Tests.{by-test, holds, no-true, and-l, and-r, or-l, o
 use Rattle.numbers.proofs.Tables.{first-skips}
 use Rattle.numbers.proofs.All.{All, all-cons, all-append}
 use Rattle.numbers.proofs.Parts.{ints, parts-abs, test-le}
+use Rattle.station.specs.declared.Staffs.{Staffs}
+use Rattle.station.specs.declared.Staffs.the-variants.{Nominal}
 use Rattle.adjust.specs.declared.Opening.{Opening}
 use Rattle.adjust.specs.declared.Section.{Section}
 use Rattle.adjust.specs.declared.terms.Class.the-variants.{Spur}
@@ -49,39 +51,44 @@ fresh-not-closed e = let z : _≡_ {A = ℕ} 0 1 = cc in omega arith
 
 -- ---- what is kept
 
--- what waits beside n sections: a run leaves room for the section that it will be
-abbrev pub Awaits : ℕ → Waiting → Type 0
-Awaits n Nothing = Unit {0}
-Awaits n (Outward number run) = Sized run × (n < 64) × (natAbs number ≤ 9999)
+-- what waits beside n sections, levelled with the staffs c: a run leaves room for the section that it will be
+abbrev pub Awaits : Staffs → ℕ → Waiting → Type 0
+Awaits c n Nothing = Unit {0}
+Awaits c n (Outward number run) = Sized c run × (n < 64) × (natAbs number ≤ 9999)
 
 pub record Kept (v : LineState) : Type 0 where
   pub few : length (v .sections) ≤ 64
   pub fit : All sectionFits (v .sections)
-  pub present : Sized (v .line .present)
-  pub waiting : Awaits (length (v .sections)) (v .line .waiting)
+  pub present : Sized (v .line .opening .staffs) (v .line .present)
+  pub waiting : Awaits (v .line .opening .staffs) (length (v .sections)) (v .line .waiting)
   pub start : heightInRange (v .line .opening .start .height) ≡ true
   pub end : heightInRange (v .line .end) ≡ true
   pub closed : v .line .stage ≡ Closed → 1 ≤ length (v .sections)
   pub placed : misplaced (v .line) (length (v .sections)) ≡ false
   -- what the report's fields ask
   pub number : natAbs (v .line .opening .start .number) ≤ 9999
-  pub narrow-sections : All narrow (v .sections)
+  pub narrow-sections : All (narrow (v .line .opening .staffs)) (v .sections)
+  -- no call gives other constants
+  pub nominal : v .line .opening .staffs ≡ Nominal
 
 -- so the test of 20 does not hold
 pub kept-unbroken : (v : LineState) → Kept v → (c : Call) → broken v c ≡ false
 unfolding lineBroken
-kept-unbroken v i c =
-    λ j. (none (isClosing c) j
-    || (not (le-leb (length (v .sections)) 64 (i .few) j) || not (run-fits (v .line .present) (i .present) j) || waits (v .line .waiting) (i .waiting) j || not (i .start j) || not (i .end j)
+kept-unbroken v i call =
+    λ j. (none (isClosing call) j
+    || (not (le-leb (length (v .sections)) 64 (i .few) j) || not (run-fits c (v .line .present) (i .present) j) || waits (v .line .waiting) (i .waiting) j || not (i .start j) || not (i .end j)
     || i .placed j))
   where
+    c : Staffs
+    c = v .line .opening .staffs
+
     none : (t : Bool) → t && misfit (v .sections) ≡ false
     none true = λ j. not (le-leb (length (v .sections)) 64 (i .few) j) || i .fit j
     none false = refl
 
-    waits : (w : Waiting) → Awaits (length (v .sections)) w → waitingBroken w (length (v .sections)) ≡ false
+    waits : (w : Waiting) → Awaits c (length (v .sections)) w → waitingBroken w (length (v .sections)) ≡ false
     waits Nothing k = refl
-    waits (Outward number run) k = λ j. not (run-fits run (k .0) j) || lt-leb 64 (length (v .sections)) (k .1) j
+    waits (Outward number run) k = λ j. not (run-fits c run (k .0) j) || lt-leb 64 (length (v .sections)) (k .1) j
 
 -- an open line is not fresh: what is left to see is what waits
 abbrev stray : LineState → Bool
@@ -107,7 +114,7 @@ open-placed l n o e =
     not-shut Closed e = no-true e
 
 -- other runs beside the same sections
-runs-kept : (v : LineState) (w : Waiting) (u : Run) → Kept v → isOpen (v .line .stage) ≡ true → Awaits (length (v .sections)) w → Sized u
+runs-kept : (v : LineState) (w : Waiting) (u : Run) → Kept v → isOpen (v .line .stage) ≡ true → Awaits (v .line .opening .staffs) (length (v .sections)) w → Sized (v .line .opening .staffs) u
     → isReturn w && not (termsOf (v .line .opening .class) .double) ≡ false → Kept (record { line = withRuns (v .line) w u; sections = v .sections })
 runs-kept v w u i o k h e =
     record {
@@ -121,25 +128,28 @@ runs-kept v w u i o k h e =
       placed = open-placed (withRuns (v .line) w u) (length (v .sections)) o e;
       number = i .number;
       narrow-sections = i .narrow-sections;
+      nominal = i .nominal;
     }
 
 -- ---- the end of a run
 
 -- a section more, one that fits and for which there is room
-section-kept : (v : LineState) (x : Section) → Kept v → isOpen (v .line .stage) ≡ true → length (v .sections) < 64 → sectionFits x ≡ true → narrow x ≡ true
-    → Kept (withSection v x)
+section-kept : (v : LineState) (x : Section) → Kept v → isOpen (v .line .stage) ≡ true → length (v .sections) < 64 → sectionFits x ≡ true
+    → narrow (v .line .opening .staffs) x ≡ true → Kept (withSection v x)
 section-kept v x i o room e n =
+    let c : Staffs = v .line .opening .staffs in
     record {
       few = rw (length-append (v .sections) (x ∷ [])) (omega arith);
       fit = all-append sectionFits (v .sections) (x ∷ []) (i .fit) (all-cons sectionFits x [] e refl);
-      present = no-run-sized;
+      present = no-run-sized c;
       waiting = tt;
       start = i .start;
       end = i .end;
       closed = λ c. rw (length-append (v .sections) (x ∷ [])) (omega arith);
       placed = open-placed (withSection v x .line) (length (withSection v x .sections)) o refl;
       number = i .number;
-      narrow-sections = all-append narrow (v .sections) (x ∷ []) (i .narrow-sections) (all-cons narrow x [] n refl);
+      narrow-sections = all-append (narrow c) (v .sections) (x ∷ []) (i .narrow-sections) (all-cons (narrow c) x [] n refl);
+      nominal = i .nominal;
     }
 
 number-size : (n : ℤ) → numberInRange n ≡ true → natAbs n ≤ 9999
@@ -161,6 +171,9 @@ run-kept v number i e =
     small : natAbs number ≤ 9999
     small = number-size number (not-false (numberInRange number) (fails v (end-run number) e 4))
 
+    c : Staffs
+    c = v .line .opening .staffs
+
     u : Run
     u = v .line .present
 
@@ -170,18 +183,18 @@ run-kept v number i e =
     terms : Terms
     terms = termsOf (v .line .opening .class)
 
-    go : (w : Waiting) (t : Bool) → terms .double ≡ t → 0 < u .count → Awaits n w → not (isReturn w) && leb 64 n ≡ false
+    go : (w : Waiting) (t : Bool) → terms .double ≡ t → 0 < u .count → Awaits c n w → not (isReturn w) && leb 64 n ≡ false
         → outwardOrReturn w false (λ outward run. not (discrepancyWithin (terms .apart) (bothWays outward run u))) ≡ false
         → Kept (outwardOrReturn w
         (cond t (record { line = withRuns (v .line) (Outward number u) noRun; sections = v .sections }) (withSection v (oneWay number u)))
         (λ outward run. withSection v (bothWays outward run u)))
-    go Nothing true both some k room d = runs-kept v (Outward number u) noRun i running (i .present, leb-false 64 n room, small) no-run-sized (λ j. not (both j))
+    go Nothing true both some k room d = runs-kept v (Outward number u) noRun i running (i .present, leb-false 64 n room, small) (no-run-sized c) (λ j. not (both j))
     go Nothing false both some k room d =
-        section-kept v (oneWay number u) i running (leb-false 64 n room) (one-way-fits number u (i .present) some) (one-way-narrow number u small (i .present))
+        section-kept v (oneWay number u) i running (leb-false 64 n room) (one-way-fits c number u (i .present) some) (one-way-narrow c number u small (i .present))
     go (Outward outward run) t both some k room d =
         let near = not-false (discrepancyWithin (terms .apart) (bothWays outward run u)) d in
-        section-kept v (bothWays outward run u) i running (k .1) (both-ways-fits terms (row (v .line .opening .class)) outward run u (k .0) (i .present) some near)
-        (both-ways-narrow outward run u (k .2) (k .0) (i .present))
+        section-kept v (bothWays outward run u) i running (k .1) (both-ways-fits c terms (row (v .line .opening .class)) outward run u (k .0) (i .present) some near)
+        (both-ways-narrow c outward run u (k .2) (k .0) (i .present))
 
 -- ---- a call
 
@@ -195,12 +208,13 @@ running-station v kb kf readings e =
     (or-l (not (isOpen (v .line .stage))) (isShut v) (fails v (station kb kf readings) e 21))
 
 -- a line that is opened, by the tests 4 and 5
-opened-kept : (o : Opening) → not (numberInRange (o .start .number)) ≡ false → not (heightInRange (o .start .height)) ≡ false → Kept (record { line = begun o; sections = [] })
-opened-kept o four five =
+opened-kept : (o : Opening) → not (numberInRange (o .start .number)) ≡ false → not (heightInRange (o .start .height)) ≡ false → o .staffs ≡ Nominal
+    → Kept (record { line = begun o; sections = [] })
+opened-kept o four five nominal =
     record {
       few = omega arith;
       fit = refl;
-      present = no-run-sized;
+      present = no-run-sized (o .staffs);
       waiting = tt;
       start = not-false (heightInRange (o .start .height)) five;
       end = refl;
@@ -208,6 +222,7 @@ opened-kept o four five =
       placed = refl;
       number = number-size (o .start .number) (not-false (numberInRange (o .start .number)) four);
       narrow-sections = refl;
+      nominal = nominal;
     }
 
 -- one that is closed on a height in range, by the test 33
@@ -226,21 +241,22 @@ closed-kept v end i known ready =
       placed = λ j. no-stray v i j || ne-eqb (length (v .sections)) 0 (λ z. omega arith) j;
       number = i .number;
       narrow-sections = i .narrow-sections;
+      nominal = i .nominal;
     }
 
 taken-kept : (v : LineState) (c : Call) → Kept v → refusal v c ≡ 0 → Kept (taken v c)
 taken-kept v (open-line order instrument number height) i e =
-    let test = fails v (open-line order instrument number height) e in opened-kept (openingOf (classOf order) instrument number height) (test 4) (test 5)
+    let test = fails v (open-line order instrument number height) e in opened-kept (openingOf (classOf order) instrument number height) (test 4) (test 5) refl
 taken-kept v (station kb kf readings) i e =
     runs-kept v (v .line .waiting) _ i (running-station v kb kf readings e) (i .waiting) (station-sized v kb kf readings e (i .present)) (no-stray v i)
 taken-kept v (end-run number) i e = run-kept v number i e
 taken-kept v drop-run i e =
-    runs-kept v (v .line .waiting) noRun i (not-false (isOpen (v .line .stage)) (fails v drop-run e 21)) (i .waiting) no-run-sized (no-stray v i)
-taken-kept v drop-section i e = runs-kept v Nothing noRun i (not-false (isOpen (v .line .stage)) (fails v drop-section e 21)) tt no-run-sized refl
+    runs-kept v (v .line .waiting) noRun i (not-false (isOpen (v .line .stage)) (fails v drop-run e 21)) (i .waiting) (no-run-sized (v .line .opening .staffs)) (no-stray v i)
+taken-kept v drop-section i e = runs-kept v Nothing noRun i (not-false (isOpen (v .line .stage)) (fails v drop-section e 21)) tt (no-run-sized (v .line .opening .staffs)) refl
 taken-kept v (close-line number end) i e =
     let test = fails v (close-line number end) e in closed-kept v end i (not-false (heightInRange end) (test 5)) (test 33)
 taken-kept v (open-spur order instrument number height) i e =
-    let test = fails v (open-spur order instrument number height) e in opened-kept (openingOf Spur instrument number height) (test 4) (test 5)
+    let test = fails v (open-spur order instrument number height) e in opened-kept (openingOf Spur instrument number height) (test 4) (test 5) refl
 taken-kept v (close-spur number) i e = closed-kept v (pos 0) i refl (fails v (close-spur number) e 33)
 taken-kept v (collimation x) i e =
     record {
@@ -254,6 +270,7 @@ taken-kept v (collimation x) i e =
       placed = i .placed;
       number = i .number;
       narrow-sections = i .narrow-sections;
+      nominal = i .nominal;
     }
 
 -- ---- no call shortens the list of sections: one that opens a line finds none
@@ -303,7 +320,19 @@ after-kept (c ∷ cs) r i = after-kept cs (next r c) (next-kept r c i)
 
 pub fresh-kept : Kept (plainState freshReading)
 fresh-kept =
-    record { few = omega arith; fit = refl; present = no-run-sized; waiting = tt; start = refl; end = refl; closed = λ c. absurd (fresh-not-closed c); placed = refl; number = omega arith; narrow-sections = refl }
+    record {
+      few = omega arith;
+      fit = refl;
+      present = no-run-sized Nominal;
+      waiting = tt;
+      start = refl;
+      end = refl;
+      closed = λ c. absurd (fresh-not-closed c);
+      placed = refl;
+      number = omega arith;
+      narrow-sections = refl;
+      nominal = refl;
+    }
 
 pub calls-kept : (calls : List Call) → Kept (plainState (after freshReading calls))
 calls-kept calls = after-kept calls freshReading fresh-kept

@@ -10,6 +10,8 @@ use lib.IntN.{ℤ, pos}
 use Rattle.numbers.specs.Numbers.{sum, lastOf}
 use Rattle.adjust.specs.declared.terms.Class.the-variants.{Fourth, Spur}
 use Rattle.station.specs.declared.Instrument.the-variants.{Ds3}
+use Rattle.station.specs.declared.Staffs.{Staffs}
+use Rattle.station.specs.declared.Staffs.the-variants.{Nominal}
 use Rattle.station.specs.Station.{Station, stationOf, sights, sightDifference, twiceHeight}
 use Rattle.adjust.specs.declared.Opening.{Opening}
 use Rattle.adjust.specs.declared.Section.{Section}
@@ -47,39 +49,40 @@ pub record Reading : Type 0 where
 
 -- ---- the counts and sums of the lists
 
-abbrev pub runOf : List Station → Run
-runOf xs =
+abbrev pub runOf : Staffs → List Station → Run
+runOf c xs =
     record {
       count = length xs;
-      height = sum (map twiceHeight xs);
+      height = sum (map (twiceHeight c) xs);
       sights = sum (map sights xs);
       difference = sum (map sightDifference xs);
       last = lastOf (pos 0) (map (λ (x : Station). x .fore .constant) xs);
     }
 
-abbrev pub sectionOf : Levelled → Section
-sectionOf x = go (x .back)
+abbrev pub sectionOf : Staffs → Levelled → Section
+sectionOf c x = go (x .back)
   where
     go : Option (List Station) → Section
-    go none = oneWay (x .number) (runOf (x .outward))
-    go (some back) = bothWays (x .number) (runOf (x .outward)) (runOf back)
+    go none = oneWay (x .number) (runOf c (x .outward))
+    go (some back) = bothWays (x .number) (runOf c (x .outward)) (runOf c back)
 
-abbrev pub waitingOf : Option Awaited → Waiting
-waitingOf none = Nothing
-waitingOf (some w) = Outward (w .number) (runOf (w .outward))
+abbrev pub waitingOf : Staffs → Option Awaited → Waiting
+waitingOf c none = Nothing
+waitingOf c (some w) = Outward (w .number) (runOf c (w .outward))
 
 abbrev pub plainState : Reading → LineState
 plainState r =
+    let c : Staffs = r .opening .staffs in
     record {
       line =
           record {
             stage = r .stage;
             opening = r .opening;
             end = r .end;
-            waiting = waitingOf (r .waiting);
-            present = runOf (r .present);
+            waiting = waitingOf c (r .waiting);
+            present = runOf c (r .present);
           };
-      sections = map sectionOf (r .sections);
+      sections = map (sectionOf c) (r .sections);
     }
 
 -- ---- what is kept of a call that is taken
@@ -169,7 +172,7 @@ abbrev pub freshReading : Reading
 freshReading =
     record {
       stage = Fresh;
-      opening = record { class = Fourth; instrument = Ds3; start = record { number = pos 0; height = pos 0 }; collimated = false };
+      opening = record { class = Fourth; instrument = Ds3; start = record { number = pos 0; height = pos 0 }; staffs = Nominal; collimated = false };
       end = pos 0;
       sections = [];
       waiting = none;

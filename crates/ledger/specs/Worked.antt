@@ -6,6 +6,7 @@ use lib.IntN.{ℤ, pos, negℤ, _*ℤ_}
 use Rattle.roots.specs.Round.{roundEven}
 use Rattle.roots.specs.Limit.{isWithin}
 use Rattle.collimation.specs.Collimation.{withinAngle}
+use Rattle.station.specs.declared.Staffs.the-variants.{Nominal}
 use Rattle.station.specs.Station.{Station, stationOf, sightDifference, faceDifference, twiceHeight}
 use Rattle.adjust.specs.declared.Section.{Section}
 use Rattle.adjust.specs.declared.Point.{Point}
@@ -98,14 +99,14 @@ heights cs = map (λ (c : Closing). map (λ (p : Point). p .height) (c .points))
 pub record Starred : Type 0 where
   -- A's first station
   pub first-d : sightDifference s1 ≡ negℤ (pos 2)
-  pub first-back-e : faceDifference (s1 .back) ≡ pos 0
-  pub first-fore-e : faceDifference (s1 .fore) ≡ negℤ (pos 1)
-  pub first-height : twiceHeight s1 ≡ pos 1665
+  pub first-back-e : faceDifference Nominal (s1 .back) ≡ pos 0
+  pub first-fore-e : faceDifference Nominal (s1 .fore) ≡ negℤ (pos 1)
+  pub first-height : twiceHeight Nominal s1 ≡ pos 1665
   -- its second
-  pub second-back-e : faceDifference (s2 .back) ≡ pos 0
-  pub second-fore-e : faceDifference (s2 .fore) ≡ pos 1
-  pub second-height : twiceHeight s2 ≡ negℤ (pos 349)
-  pub accumulated : runOf (s1 ∷ s2 ∷ []) .difference ≡ negℤ (pos 4)
+  pub second-back-e : faceDifference Nominal (s2 .back) ≡ pos 0
+  pub second-fore-e : faceDifference Nominal (s2 .fore) ≡ pos 1
+  pub second-height : twiceHeight Nominal s2 ≡ negℤ (pos 349)
+  pub accumulated : runOf Nominal (s1 ∷ s2 ∷ []) .difference ≡ negℤ (pos 4)
   -- A's section 1, and that section alone from 10000
   pub section-1 : plainState (after freshReading (one 10000 10651)) .sections ≡ section 2 2632 2564 0 ∷ []
   pub w28 : closures (closings freshReading (one 10000 10651)) ≡ pos 28 ∷ []

@@ -110,7 +110,7 @@ module _ (b : Book) where
   unfolding bookRefusal
   station-alike kb kf readings =
       let c = station kb kf readings in
-      λ i. firstOf (inputTests c ++ ((20, lineBroken (b .line) (counted i)) ∷ stationTests (b .line) (shut-alike i) kb (figuresOf (stationOf kb kf readings))))
+      λ i. firstOf (inputTests c ++ ((20, lineBroken (b .line) (counted i)) ∷ stationTests (b .line) (shut-alike i) kb (figuresOf (b .line .opening .staffs) (stationOf kb kf readings))))
 
   pub collimation-alike : (x : List ℤ) → bookRefusal (beside (b .line) (b .sections .count)) (collimation x) ≡ bookRefusal v (collimation x)
   unfolding bookRefusal

@@ -12,6 +12,7 @@ use Rattle.numbers.specs.Tables.{firstOf}
 use Rattle.roots.specs.Limit.{isWithin}
 use Rattle.station.specs.declared.Instrument.{Instrument}
 use Rattle.station.specs.declared.Instrument.the-variants.{Ds3, Ds1}
+use Rattle.station.specs.declared.Staffs.the-variants.{Nominal}
 use Rattle.station.specs.declared.Figures.{Figures}
 use Rattle.station.specs.Station.{stationOf, figuresOf, limitsOf, readingTests, limitTests}
 use Rattle.collimation.specs.Collimation.{collimationOf, withinAngle, rangeTests}
@@ -117,7 +118,7 @@ stationTests l shut kb f =
     ∷ (46, not (l .opening .collimated))
     ∷ (22, leb 200 (l .present .count))
     ∷ (23, outOfTurn l kb)
-    ∷ limitTests (limitsOf (orderOf (l .opening .class)) (l .opening .instrument)) (l .present .difference) f
+    ∷ limitTests (limitsOf (orderOf (l .opening .class)) (l .opening .instrument) (l .opening .staffs)) (l .present .difference) f
 
 -- and those that a book makes of it, which also tests for 20
 abbrev pub bookStationTests : LineState → ℤ → Figures → List (ℕ × Bool)
@@ -139,7 +140,7 @@ closeTests v other number unlike =
 -- what the book's state causes
 abbrev pub stateTests : LineState → Call → List (ℕ × Bool)
 stateTests v (open-line order instrument number height) = openState v
-stateTests v (station kb kf readings) = stationTests (v .line) (isShut v) kb (figuresOf (stationOf kb kf readings))
+stateTests v (station kb kf readings) = stationTests (v .line) (isShut v) kb (figuresOf (v .line .opening .staffs) (stationOf kb kf readings))
 stateTests v (end-run number) =
     (21, not (isOpen (v .line .stage)) || isShut v)
     ∷ (29, eqb (v .line .present .count) 0 || eqb (v .line .present .count % 2) 1)
@@ -223,10 +224,11 @@ abbrev pub begun : Opening → Line
 begun o = record { stage = Open; opening = o; end = pos 0; waiting = Nothing; present = noRun }
 
 abbrev pub openingOf : Class → ℤ → ℤ → ℤ → Opening
-openingOf class instrument number height = record { class = class; instrument = instrumentOf instrument; start = record { number = number; height = height }; collimated = false }
+openingOf class instrument number height =
+    record { class = class; instrument = instrumentOf instrument; start = record { number = number; height = height }; staffs = Nominal; collimated = false }
 
 abbrev pub collimated : Opening → Opening
-collimated o = record { class = o .class; instrument = o .instrument; start = o .start; collimated = true }
+collimated o = record { class = o .class; instrument = o .instrument; start = o .start; staffs = o .staffs; collimated = true }
 
 abbrev pub withOpening : Line → Opening → Line
 withOpening l o =
@@ -252,7 +254,7 @@ abbrev pub taken : LineState → Call → LineState
 taken v (open-line order instrument number height) = record { line = begun (openingOf (classOf order) instrument number height); sections = [] }
 taken v (station kb kf readings) =
     record {
-      line = withRuns (v .line) (v .line .waiting) (withStation (v .line .present) (figuresOf (stationOf kb kf readings)) kf);
+      line = withRuns (v .line) (v .line .waiting) (withStation (v .line .present) (figuresOf (v .line .opening .staffs) (stationOf kb kf readings)) kf);
       sections = v .sections;
     }
 taken v (end-run number) = runEnded v number

@@ -125,7 +125,14 @@ fn station_state(line: Line, shut: bool, kb: i64, f: Figures) -> u8
     let opening = line.opening;
     let class = opening.class;
     let instrument = opening.instrument;
-    let limits = station::judge(order_of(class), instrument, line.present.difference, f);
+    let staffs = opening.staffs;
+    let limits = station::judge(
+        order_of(class),
+        instrument,
+        staffs,
+        line.present.difference,
+        f,
+    );
     let turn = pick(out_of_turn(line, kb), 23, limits);
     let full = pick(200 <= line.present.count, 22, turn);
     let tested = pick(!opening.collimated, 46, full);

@@ -4,10 +4,9 @@ use Rattle.numbers.specs.Tables.{firstOf}
 use Rattle.numbers.proofs.Machine.{stored}
 use Rattle.station.specs.declared.Figures.{Figures}
 use Rattle.station.specs.declared.Readings.{Readings}
-use Rattle.station.specs.code.Bounds.{Small}
+use Rattle.station.specs.code.Bounds.{SmallReadings}
 use Rattle.station.specs.Station.{stationOf, figuresOf, readingRefusal, Reads}
 use Rattle.station.proofs.Answered.{of-station, of-refused}
-use Rattle.station.proofs.Sizes.{read, figures-small}
 use Rattle.rules.specs.LineState.{LineState, withStation}
 use Rattle.rules.specs.code.Seen.{numbered, numbersIn}
 use Rattle.rules.specs.Rules.{Call, station, bookStationTests, bookRefusal, withRuns}
@@ -54,35 +53,42 @@ same : (s : tie.Start) → asked s ≡ station (s .args .kb) (s .args .kf) (s .a
 same s = station-as (s .args .readings) (s .fits .kb) (s .fits .kf)
 
 abbrev figures : tie.Start → Figures
-figures s = figuresOf (stationOf (stored (s .args .kb)) (stored (s .args .kf)) (s .args .readings))
+figures s = figuresOf (s .args .line .opening .staffs) (stationOf (stored (s .args .kb)) (stored (s .args .kf)) (s .args .readings))
+
+-- what is known at the function's start, seen from behind the reading
+abbrev start : tie.After-read → tie.Start
+start c = c .before .before
 
 -- what is read is that of the case
-reads : (c : tie.After-read) {r : Readings} → c .read .result ≡ r → Reads (stored (c .before .args .kb)) (stored (c .before .args .kf)) (c .before .args .readings) r
-reads c e = let a = c .before .args in subst (Reads (stored (a .kb)) (stored (a .kf)) (a .readings)) e (c .read .ensures)
+reads : (c : tie.After-read) {r : Readings} → c .read .result ≡ r
+    → let a = start c .args in Reads (a .line .opening .staffs) (stored (a .kb)) (stored (a .kf)) (a .readings) r
+reads c e = let a = start c .args in subst (Reads (a .line .opening .staffs) (stored (a .kb)) (stored (a .kf)) (a .readings)) e (c .read .ensures .0)
 
 returns-2 : tie.Need-returns-2
 unfolding readingRefusal
 returns-2 c =
     let k = c .before .before in
     let r = k .before .before in
-    let s = r .before in
-    let refused = of-refused (stored (s .args .kb)) (stored (s .args .kf)) (s .args .readings) (reads r (k .read2 .given .1)) in
+    let s = start r in
+    let refused = of-refused (s .args .line .opening .staffs) (stored (s .args .kb)) (stored (s .args .kf)) (s .args .readings) (reads r (k .read2 .given .1)) in
     change-refused (held s) (s .args .line) (same s) (input-refused (held s) (asked s) (k .read2 .given .0 .0) (refused .0) (refused .1)) (refused .1) (c .line-only .ensures)
 
 -- ---- a station
 
-taken : (k : tie.After-read3) → (readingRefusal (stored (k .before .before .before .args .kb)) (stored (k .before .before .before .args .kf)) (k .before .before .before .args .readings) ≡ 0)
-    × (k .read3 .given .0 .0 ≡ figures (k .before .before .before))
+taken : (k : tie.After-read3)
+    → let s = start (k .before .before) in
+    (readingRefusal (stored (s .args .kb)) (stored (s .args .kf)) (s .args .readings) ≡ 0) × (k .read3 .given .0 .0 ≡ figures s)
 taken k =
     let r = k .before .before in
-    let a = r .before .args in
-    of-station (stored (a .kb)) (stored (a .kf)) (a .readings) (reads r (k .read3 .given .1))
+    let a = start r .args in
+    of-station (a .line .opening .staffs) (stored (a .kb)) (stored (a .kf)) (a .readings) (reads r (k .read3 .given .1))
 
-number : (c : tie.After-station-refusal) → c .station-refusal .result ≡ bookRefusal (held (c .before .before .before .before .before)) (asked (c .before .before .before .before .before))
+number : (c : tie.After-station-refusal)
+    → let s = start (c .before .before .before .before) in c .station-refusal .result ≡ bookRefusal (held s) (asked s)
 unfolding readingRefusal
 number c =
     let k = c .before .before in
-    let s = k .before .before .before in
+    let s = start (k .before .before) in
     later-refused (held s) (asked s) (c .station-refusal .result) (taken k .0)
     (c .station-refusal .ensures ∙ ap (λ (f : Figures). firstOf (bookStationTests (held s) (stored (s .args .kb)) f)) (taken k .1))
 
@@ -90,18 +96,18 @@ returns : tie.Need-returns
 returns c =
     let t = c .before in
     let r = t .before in
-    let s = r .before .before .before .before .before in
+    let s = start (r .before .before .before .before) in
     change-refused (held s) (s .args .line) (same s) (number r) (t .if1 .taken) (c .line-only2 .ensures)
 
 with-station-requires : tie.Need-with-station-requires
 with-station-requires c κs =
     let r = c .before in
     let k = r .before .before in
-    let s = k .before .before .before in
+    let s = start (k .before .before) in
     let a = s .args in (
       unbroken (a .line) (a .count)
           (sym (counted-broken (a .line) (numbered (a .count) (a .numbers .now))) ∙ line-unbroken (held s) (asked s) (sym (number r) ∙ c .if1 .left)) .present,
-      subst Small (sym (taken k .1)) (figures-small (read (stored (s .args .kb)) (stored (s .args .kf)) (s .args .readings) (taken k .0))),
+      subst SmallReadings (k .read3 .given .1) (k .before .before .read .ensures .1),
     )
 
 returns-3 : tie.Need-returns-3
@@ -111,7 +117,7 @@ returns-3 c =
     let e = d .before in
     let r = e .before in
     let k = r .before .before in
-    let s = k .before .before .before in
+    let s = start (k .before .before) in
     let l = s .args .line in
     let line = d .with-station .ensures ∙ ap (λ (f : Figures). withRuns l (l .waiting) (withStation (l .present) f (stored (s .args .kf)))) (taken k .1) in
     change-taken (held s) l (same s) (number r) (e .if1 .left) (c .line-only3 .ensures ∙ ap (lineOnly 0) line)

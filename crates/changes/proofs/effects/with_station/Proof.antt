@@ -22,7 +22,7 @@ module _ (s : tie.Start) where
   abbrev f : Figures
   f = s .args .f
 
-  height : Value (stored (u .height) +ℤ stored (f .height)) (u .height +ℤ f .height) (mostG + 31572)
+  height : Value (stored (u .height) +ℤ stored (f .height)) (u .height +ℤ f .height) (mostG + 351050)
   height = add (known (u .height) (s .pre .0 .height) tt) (known (f .height) (s .pre .1 .height) tt)
 
   both : Value (stored (f .back .sight) +ℤ stored (f .fore .sight)) (f .back .sight +ℤ f .fore .sight) 12000
