@@ -3,18 +3,19 @@
 use mathlib.Core.Path.{_≡_, refl, sym, ap, ap₂, subst, _∙_}
 use mathlib.Core.List.{List, [], _∷_, map}
 use Prim.Native.Nat.{ℕ, _+_, _*_, _≤_, _<_}
+use native.Mathlib.Nat.{mul-comm, mul-le-mul}
 use native.Mathlib.Omega.{arith}
 use lib.IntN.{ℤ, pos, negℤ, natAbs, _+ℤ_, _-ℤ_, _*ℤ_, +ℤ-idr, +ℤ-assoc, +ℤ-invr, *ℤ-zero, zero-*ℤ}
 use lib.Signed.{_≤ℤ_}
 use Rattle.numbers.proofs.Ring.{ringℤ, one-mulℤ}
-use Rattle.numbers.proofs.Parts.{ints, parts-times, parts-abs, pos-abs}
+use Rattle.numbers.proofs.Parts.{ints, parts-abs, pos-abs}
 use Rattle.numbers.proofs.Sizes.{abs-sub, abs-mul}
 use Rattle.roots.specs.Round.{roundEven}
 use Rattle.roots.proofs.RoundLaws.{round-is, round-exact, round-scale}
-use Rattle.adjust.specs.declared.Opening.{Opening}
 use Rattle.adjust.specs.declared.Section.{Section}
 use Rattle.adjust.specs.declared.Point.{Point}
-use Rattle.adjust.specs.Line.{Frame, frame, frameOf, lineFrame, lineLength, lineHeight, exactTop, printedHeight, pointsAfter, sectionPoints}
+use Rattle.adjust.specs.declared.Frame.{Frame}
+use Rattle.adjust.specs.Line.{wholes, frame, frameOf, lineLength, lineHeight, exactTop, printedHeight, pointsAfter, sectionPoints}
 use Rattle.adjust.specs.Claims.{Near, no-section, next-section, Sound, corrections, lastHeight, rawHeights}
 
 -- ---- identities
@@ -137,19 +138,26 @@ module _ (f : Frame) (d : 0 < natAbs (f .units *ℤ f .total)) (e : pos (natAbs 
 
 -- ---- the sections of a line at least 1 long
 
-module _ (ss : List Section) (h : pos 1 ≤ℤ lineLength ss) where
-  some : 0 < natAbs (pos 4 *ℤ lineLength ss)
-  some = omega (ints, parts-times 4 (lineLength ss), parts-abs (pos 4 *ℤ lineLength ss))
+-- its divisor, where a millimetre is one unit or more
+module _ (units : ℕ) (u : 0 < units) {l : ℤ} (h : pos 1 ≤ℤ l) where
+  some : 0 < natAbs (pos units *ℤ l)
+  some =
+      let long : 0 < natAbs l = omega (ints, parts-abs l) in
+      let product : 0 < units * natAbs l = mul-le-mul u long in
+      omega (arith, abs-mul (pos units) l)
 
-  whole : pos (natAbs (pos 4 *ℤ lineLength ss)) ≡ pos 4 *ℤ lineLength ss
-  whole = let long : pos 0 ≤ℤ (pos 4 *ℤ lineLength ss) = omega (ints, parts-times 4 (lineLength ss)) in pos-abs long
+  whole : pos (natAbs (pos units *ℤ l)) ≡ pos units *ℤ l
+  whole =
+      let low : pos 0 ≤ℤ l = omega ints in
+      ap pos (abs-mul (pos units) l) ∙ ap (λ (z : ℤ). pos units *ℤ z) (pos-abs low)
 
-  pub line-sound : (start end : ℤ) → Sound (frameOf start end ss) end ss (sectionPoints (frameOf start end ss) ss)
-  line-sound start end = frame-sound (frameOf start end ss) some whole end ss refl refl
+module _ (units : ℕ) (u : 0 < units) (prints : ℤ) (ss : List Section) (h : pos 1 ≤ℤ lineLength ss) where
+  pub line-sound : (start end : ℤ) → let f : Frame = frameOf (pos units) prints start end ss in Sound f end ss (sectionPoints f ss)
+  line-sound start end = frame-sound (frameOf (pos units) prints start end ss) (some units u h) (whole units u h) end ss refl refl
 
-  -- whatever its class
-  pub line-near : (o : Opening) (end : ℤ) → Near (lineFrame o end ss) (pos 0) (pos 0) ss (sectionPoints (lineFrame o end ss) ss)
-  line-near o end = frame-near (lineFrame o end ss) some whole ss
+  -- whatever its closure
+  pub line-near : (start w : ℤ) → let f : Frame = frame (pos units) prints start (record { closure = w; distance = lineLength ss }) in Near f (pos 0) (pos 0) ss (sectionPoints f ss)
+  line-near start w = frame-near (frame (pos units) prints start (record { closure = w; distance = lineLength ss })) (some units u h) (whole units u h) ss
 
 -- ---- a line without a closure
 
@@ -160,26 +168,26 @@ raw-top u b l q s = one-mulℤ (u *ℤ b *ℤ l +ℤ q *ℤ l -ℤ pos 0 *ℤ s)
     factor : (u b l q : ℤ) → u *ℤ b *ℤ l +ℤ q *ℤ l ≡ l *ℤ (u *ℤ b +ℤ q)
     factor u b l q = simp ringℤ
 
-module _ (b l : ℤ) (h : pos 1 ≤ℤ l) where
+module _ (units : ℕ) (u : 0 < units) (b l : ℤ) (h : pos 1 ≤ℤ l) where
   abbrev raw : Frame
-  raw = frame b (record { closure = pos 0; distance = l })
+  raw = frame (pos units) wholes b (record { closure = pos 0; distance = l })
 
-  raw-printed : (q s : ℤ) → printedHeight raw q s ≡ roundEven (pos 4 *ℤ b +ℤ q) 4
+  raw-printed : (q s : ℤ) → printedHeight raw q s ≡ roundEven (pos units *ℤ b +ℤ q) units
   raw-printed q s =
-      let whole : pos (natAbs l) ≡ l = pos-abs (omega ints) in
-      (λ i. roundEven ((raw-top (pos 4) b l q s ∙ ap (λ (z : ℤ). z *ℤ (pos 4 *ℤ b +ℤ q)) (sym whole)) i) (four i))
-      ∙ round-scale (pos 4 *ℤ b +ℤ q) 4 (natAbs l) (omega arith) (omega (ints, parts-abs l))
+      let long : pos (natAbs l) ≡ l = pos-abs (omega ints) in
+      (λ i. roundEven ((raw-top (pos units) b l q s ∙ ap (λ (z : ℤ). z *ℤ (pos units *ℤ b +ℤ q)) (sym long)) i) (divisor i))
+      ∙ round-scale (pos units *ℤ b +ℤ q) units (natAbs l) u (omega (ints, parts-abs l))
     where
-      four : natAbs (pos 4 *ℤ l) ≡ natAbs l * 4
-      four = omega (arith, abs-mul (pos 4) l)
+      divisor : natAbs (pos units *ℤ l) ≡ natAbs l * units
+      divisor = abs-mul (pos units) l ∙ mul-comm units (natAbs l)
 
-  raw-after : (q s g : ℤ) (xs : List Section) → map (λ (p : Point). p .height) (pointsAfter raw q s g xs) ≡ rawHeights (pos 4 *ℤ b +ℤ q) xs
+  raw-after : (q s g : ℤ) (xs : List Section) → map (λ (p : Point). p .height) (pointsAfter raw q s g xs) ≡ rawHeights units (pos units *ℤ b +ℤ q) xs
   raw-after q s g [] = refl
   raw-after q s g (x ∷ xs) =
       let q₂ : ℤ = q +ℤ x .height in
       let s₂ : ℤ = s +ℤ x .distance in
-      let m = sym (+ℤ-assoc (pos 4 *ℤ b) q (x .height)) in
-      λ i. (raw-printed q₂ s₂ ∙ ap (λ (z : ℤ). roundEven z 4) m) i ∷ (raw-after q₂ s₂ (printedHeight raw q₂ s₂) xs ∙ ap (λ (z : ℤ). rawHeights z xs) m) i
+      let m = sym (+ℤ-assoc (pos units *ℤ b) q (x .height)) in
+      λ i. (raw-printed q₂ s₂ ∙ ap (λ (z : ℤ). roundEven z units) m) i ∷ (raw-after q₂ s₂ (printedHeight raw q₂ s₂) xs ∙ ap (λ (z : ℤ). rawHeights units z xs) m) i
 
-  pub raw-heights : (ss : List Section) → map (λ (p : Point). p .height) (sectionPoints raw ss) ≡ rawHeights (pos 4 *ℤ b) ss
-  raw-heights ss = raw-after (pos 0) (pos 0) (pos 1 *ℤ b) ss ∙ ap (λ (z : ℤ). rawHeights z ss) (+ℤ-idr (pos 4 *ℤ b))
+  pub raw-heights : (ss : List Section) → map (λ (p : Point). p .height) (sectionPoints raw ss) ≡ rawHeights units (pos units *ℤ b) ss
+  raw-heights ss = raw-after (pos 0) (pos 0) (pos 1 *ℤ b) ss ∙ ap (λ (z : ℤ). rawHeights units z ss) (+ℤ-idr (pos units *ℤ b))

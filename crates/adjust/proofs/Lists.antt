@@ -17,7 +17,8 @@ use Rattle.adjust.specs.declared.Section.{Section}
 use Rattle.adjust.specs.declared.Sections.{Sections}
 use Rattle.adjust.specs.Sizes.{mostQ, mostR, mostD}
 use Rattle.adjust.specs.Sections.{sectionAt, sectionsFrom, sectionsOf, legInRange, legFits, sectionFits}
-use Rattle.adjust.specs.Line.{Frame, pointsAfter}
+use Rattle.adjust.specs.declared.Frame.{Frame}
+use Rattle.adjust.specs.Line.{pointsAfter}
 use Rattle.adjust.specs.code.Bounds.{LegBounds}
 
 -- ---- the sections from place k on, which a loop has still to visit

@@ -13,19 +13,19 @@ use Rattle.numbers.proofs.Tests.{holds, fails, and-l, and-r, or-l, or-r, not-tr
 use Rattle.numbers.proofs.Parts.{ints, parts-add, parts-abs, test-le}
 use Rattle.numbers.proofs.Sizes.{abs-add}
 use Rattle.numbers.proofs.Tables.{failed}
-use Rattle.numbers.proofs.Chain.{plain, literal, add, sub, mul}
+use Rattle.numbers.proofs.Chain.{plain, add, sub, mul}
 use Rattle.adjust.specs.declared.Opening.{Opening}
 use Rattle.adjust.specs.declared.Section.{Section}
 use Rattle.adjust.specs.declared.Sections.{Sections}
 use Rattle.adjust.specs.declared.Totals.{Totals}
 use Rattle.adjust.specs.declared.terms.Terms.{Terms}
 use Rattle.adjust.specs.declared.LineTotals.the-variants.{Totalled, NotTotalled}
-use Rattle.adjust.specs.Sizes.{highest, mostQ, mostR, mostSumQ, mostW}
+use Rattle.adjust.specs.Sizes.{highest, mostQ, mostR, mostUnits, mostPrints, mostSumQ, mostW}
 use Rattle.adjust.specs.Sections.{sectionsOf, anyOutside, misfit, heightInRange}
-use Rattle.adjust.specs.Line.{lineHeight, lineLength, totals, totalsBy, closing}
+use Rattle.adjust.specs.Line.{quarters, wholes, lineHeight, lineLength, totals, totalsBy, frame, frameOf, closing}
 use Rattle.adjust.specs.Frames.{figuresFit, lineTotals, adjustedOf, notAdjusted, lineFigures}
 use Rattle.adjust.specs.Call.{adjustTests, adjustRefusal}
-use Rattle.adjust.specs.code.Bounds.{Fitted, Between, Framed}
+use Rattle.adjust.specs.code.Bounds.{OneTo, Fitted, Between, Framed}
 use Rattle.adjust.proofs.Lists.{Fit, fit-head, fit-tail, fitted-legs, strict-legs, from-length}
 
 pub height-size : (xs : List Section) → Fit xs → natAbs (lineHeight xs) ≤ mostQ * length xs
@@ -47,21 +47,33 @@ in-range h e =
     let high : h ≤ℤ pos highest = test-le (and-r (leZ (negℤ (pos 999999)) h) (leZ h (pos highest)) e) in
     omega (ints, parts-abs h)
 
-module _ {start end : ℤ} {s : Sections} (b : Between start end s) where
-  pub framed : Framed start (totals start end (sectionsOf s))
+module _ {units prints start end : ℤ} {s : Sections} (u : OneTo mostUnits units) (p : OneTo mostPrints prints) (b : Between start end s) where
+  pub framed : Framed (frameOf units prints start end (sectionsOf s))
   framed =
       let n = from-length s 0 (s .count) in
       let h : natAbs (lineHeight (sectionsOf s)) ≤ mostSumQ = omega (arith, n, height-size (sectionsOf s) (b .fits .legs), b .fits .few) in
       record {
-        height = b .start-size;
-        closure = sub (add (mul (literal (pos 4)) (plain start (b .start-size))) (plain (lineHeight (sectionsOf s)) h)) (mul (literal (pos 4)) (plain end (b .end-size))) .size;
-        distance = omega (arith, n, length-size (sectionsOf s) (b .fits .legs), b .fits .few);
-        long = omega (ints, n, long (sectionsOf s) (b .fits .legs), b .some);
+        units = u;
+        prints = p;
+        start = b .start-size;
+        closure = sub (add (mul (plain units (u .most)) (plain start (b .start-size))) (plain (lineHeight (sectionsOf s)) h)) (mul (plain units (u .most)) (plain end (b .end-size))) .size;
+        total =
+            record {
+              least = omega (ints, n, long (sectionsOf s) (b .fits .legs), b .some);
+              most = omega (arith, n, length-size (sectionsOf s) (b .fits .legs), b .fits .few);
+            };
       }
 
+-- the base's units are some
+pub quarters-in : OneTo mostUnits quarters
+quarters-in = record { least = omega ints; most = omega arith }
+
+pub wholes-in : OneTo mostPrints wholes
+wholes-in = record { least = omega ints; most = omega arith }
+
 -- and by its class
-pub framed-by : (terms : Terms) {start : ℤ} {t : Totals} → Framed start t → Framed start (totalsBy terms t)
-framed-by terms {start} {t} f = record { height = f .height; closure = smaller (terms .tied); distance = f .distance; long = f .long }
+pub framed-by : (terms : Terms) {units prints start : ℤ} {t : Totals} → Framed (frame units prints start t) → Framed (frame units prints start (totalsBy terms t))
+framed-by terms {t} f = record { units = f .units; prints = f .prints; start = f .start; closure = smaller (terms .tied); total = f .total }
   where
     smaller : (known : Bool) → natAbs (cond known (t .closure) (pos 0)) ≤ mostW
     smaller true = f .closure
@@ -92,9 +104,9 @@ fitting start end s e =
 
 -- ---- what is answered of figures that fit, and of those that do not
 
-pub totals-by : (start end : ℤ) (ss : List Section) {t : Bool} → figuresFit start end ss ≡ t → lineTotals start end ss ≡ cond t (Totalled (totals start end ss)) NotTotalled
+pub totals-by : (start end : ℤ) (ss : List Section) {t : Bool} → figuresFit start end ss ≡ t → lineTotals start end ss ≡ cond t (Totalled (totals quarters start end ss)) NotTotalled
 unfolding lineTotals
-totals-by start end ss e = ap (λ (t : Bool). cond t (Totalled (totals start end ss)) NotTotalled) e
+totals-by start end ss e = ap (λ (t : Bool). cond t (Totalled (totals quarters start end ss)) NotTotalled) e
 
 pub figures-by : (o : Opening) (end : ℤ) (ss : List Section) {t : Bool} → figuresFit (o .start .height) end ss ≡ t → lineFigures o end ss ≡ cond t (adjustedOf (closing o end ss)) notAdjusted
 unfolding lineFigures

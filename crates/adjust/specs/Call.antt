@@ -10,7 +10,7 @@ use Rattle.numbers.specs.Tables.{firstOf}
 use Rattle.adjust.specs.declared.Section.{Section}
 use Rattle.adjust.specs.declared.Point.{Point}
 use Rattle.adjust.specs.Sections.{anyOutside, heightInRange}
-use Rattle.adjust.specs.Line.{frameOf, sectionPoints}
+use Rattle.adjust.specs.Line.{quarters, wholes, frameOf, sectionPoints}
 
 -- of sections between two known heights, into a list with so many places
 abbrev pub adjustTests : ℤ → ℤ → List Section → ℕ → List (ℕ × Bool)
@@ -29,7 +29,7 @@ adjustRefusal start end ss places = firstOf (adjustTests start end ss places)
 
 -- one height a section, whatever W and L are
 abbrev pub adjustedHeights : ℤ → ℤ → List Section → List ℤ
-adjustedHeights start end ss = map (λ (p : Point). p .height) (sectionPoints (frameOf start end ss) ss)
+adjustedHeights start end ss = map (λ (p : Point). p .height) (sectionPoints (frameOf quarters wholes start end ss) ss)
 
 -- the height list after the call: untouched where it is refused, its further places kept where it is taken
 unfoldable pub heightsAfter : ℤ → ℤ → List Section → List ℤ → List ℤ

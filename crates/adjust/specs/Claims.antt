@@ -1,13 +1,14 @@
 -- What is promised of the points of a line: between two known heights (demand 3 of document 01), in any units, and of a spur (document 02, W-202).
 use mathlib.Core.Path.{_≡_}
 use mathlib.Core.List.{List, [], _∷_, map}
-use Prim.Native.Nat.{_*_, _≤_}
+use Prim.Native.Nat.{ℕ, _*_, _≤_}
 use lib.IntN.{ℤ, pos, negℤ, natAbs, _+ℤ_, _-ℤ_, _*ℤ_}
 use Rattle.numbers.specs.Numbers.{sum, lastOf}
 use Rattle.roots.specs.Round.{roundEven}
 use Rattle.adjust.specs.declared.Section.{Section}
 use Rattle.adjust.specs.declared.Point.{Point}
-use Rattle.adjust.specs.Line.{Frame, exactTop}
+use Rattle.adjust.specs.declared.Frame.{Frame}
+use Rattle.adjust.specs.Line.{exactTop}
 
 -- each printed height lies within half a print unit of the exact one, and each correction within one print unit of the exact share,
 -- −W × R / L: point by point with the sections, at running sums q and s
@@ -25,10 +26,10 @@ corrections ps = sum (map (λ (p : Point). p .correction) ps)
 abbrev pub lastHeight : ℤ → List Point → ℤ
 lastHeight h ps = lastOf h (map (λ (p : Point). p .height) ps)
 
--- a spur's heights, 'start plus running Q, rounded to even': after the running sum q in quarter mm, the start's height in it
-abbrev pub rawHeights : ℤ → List Section → List ℤ
-rawHeights q [] = []
-rawHeights q (x ∷ xs) = roundEven (q +ℤ x .height) 4 ∷ rawHeights (q +ℤ x .height) xs
+-- a spur's heights, 'start plus running Q, rounded to even': after the running sum q in these units to a millimetre, the start's height in it
+abbrev pub rawHeights : ℕ → ℤ → List Section → List ℤ
+rawHeights units q [] = []
+rawHeights units q (x ∷ xs) = roundEven (q +ℤ x .height) units ∷ rawHeights units (q +ℤ x .height) xs
 
 -- the points after the start, of the sections ss up to the known height `end`
 pub record Sound (f : Frame) (end : ℤ) (ss : List Section) (ps : List Point) : Type 0 where

@@ -13,7 +13,7 @@ use Rattle.adjust.specs.declared.LineTotals.the-variants.{Totalled, NotT
 use Rattle.adjust.specs.declared.LineSummary.the-variants.{Adjusted, NotAdjusted}
 use Rattle.adjust.specs.declared.LineFigures.{LineFigures}
 use Rattle.adjust.specs.Sections.{misfit, heightInRange}
-use Rattle.adjust.specs.Line.{totals, Closing, closing}
+use Rattle.adjust.specs.Line.{quarters, totals, Closing, closing}
 
 abbrev pub noPoint : Point
 noPoint = record { number = pos 0; distance = pos 0; correction = pos 0; height = pos 0 }
@@ -23,7 +23,7 @@ unfoldable pub figuresFit : ℤ → ℤ → List Section → Bool
 figuresFit start end ss = ltb 0 (length ss) && not (misfit ss) && heightInRange start && heightInRange end
 
 unfoldable pub lineTotals : ℤ → ℤ → List Section → LineTotals
-lineTotals start end ss = cond (figuresFit start end ss) (Totalled (totals start end ss)) NotTotalled
+lineTotals start end ss = cond (figuresFit start end ss) (Totalled (totals quarters start end ss)) NotTotalled
 
 -- a closing, its points in an array
 abbrev pub adjustedOf : Closing → LineFigures

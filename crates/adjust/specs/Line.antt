@@ -1,7 +1,7 @@
 -- A line from a known height: L, W, the exact and the printed heights, the corrections, and the accidental error (document 01, 'Closure, corrections, heights').
 use mathlib.Core.Bool.{cond, not, _||_}
 use mathlib.Core.List.{List, [], _∷_, map}
-use Prim.Native.Nat.{ℕ}
+use Prim.Native.Nat.{ℕ, _*_}
 use lib.ListN.{length}
 use lib.Dec.{ltb}
 use lib.IntN.{ℤ, pos, natAbs, _+ℤ_, _-ℤ_, _*ℤ_}
@@ -13,23 +13,31 @@ use Rattle.adjust.specs.declared.Section.{Section}
 use Rattle.adjust.specs.declared.Point.{Point}
 use Rattle.adjust.specs.declared.Totals.{Totals}
 use Rattle.adjust.specs.declared.Summary.{Summary}
+use Rattle.adjust.specs.declared.Frame.{Frame}
 use Rattle.adjust.specs.declared.terms.Terms.{Terms}
 use Rattle.adjust.specs.Terms.{termsOf}
+
+-- the base's units to a millimetre: Q and W are in quarter mm, printed heights in whole mm
+abbrev pub quarters : ℤ
+quarters = pos 4
+
+abbrev pub wholes : ℤ
+wholes = pos 1
 
 -- L, half dm
 abbrev pub lineLength : List Section → ℤ
 lineLength ss = sum (map (λ (x : Section). x .distance) ss)
 
--- ΣQ, quarter mm
+-- ΣQ, in the units of Q
 abbrev pub lineHeight : List Section → ℤ
 lineHeight ss = sum (map (λ (x : Section). x .height) ss)
 
--- W, quarter mm, of the sections between the known heights `start` and `end`
-abbrev pub closure : ℤ → ℤ → List Section → ℤ
-closure start end ss = pos 4 *ℤ start +ℤ lineHeight ss -ℤ pos 4 *ℤ end
+-- W, in the units of Q, of the sections between the known heights `start` and `end`, mm
+abbrev pub closure : ℤ → ℤ → ℤ → List Section → ℤ
+closure units start end ss = units *ℤ start +ℤ lineHeight ss -ℤ units *ℤ end
 
-abbrev pub totals : ℤ → ℤ → List Section → Totals
-totals start end ss = record { closure = closure start end ss; distance = lineLength ss }
+abbrev pub totals : ℤ → ℤ → ℤ → List Section → Totals
+totals units start end ss = record { closure = closure units start end ss; distance = lineLength ss }
 
 -- W and L of a line by its class: where the end is not known, W is 0 (document 02, W-202)
 abbrev pub totalsBy : Terms → Totals → Totals
@@ -37,29 +45,17 @@ totalsBy terms t = record { closure = cond (terms .tied) (t .closure) (pos 0); d
 
 -- ---- heights
 
--- what the heights of a line are computed from
-pub record Frame : Type 0 where
-  -- the units of Q and W to a millimetre: 4, quarter mm
-  pub units : ℤ
-  -- the units of a printed height to a millimetre: 1, whole mm
-  pub prints : ℤ
-  -- the known height at the start, mm
-  pub start : ℤ
-  -- W, in the units of Q
-  pub closure : ℤ
-  -- L, half dm
-  pub total : ℤ
+-- what the heights of a line are computed from: the units to a millimetre of Q and W, those of printed heights, the known height at the start, W and L. `Frame` in the code says what each field is in
+abbrev pub frame : ℤ → ℤ → ℤ → Totals → Frame
+frame units prints start t = record { units = units; prints = prints; start = start; closure = t .closure; total = t .distance }
 
--- in the base's units: quarter mm, printed in whole mm
-abbrev pub frame : ℤ → Totals → Frame
-frame start t = record { units = pos 4; prints = pos 1; start = start; closure = t .closure; total = t .distance }
-
-abbrev pub frameOf : ℤ → ℤ → List Section → Frame
-frameOf start end ss = frame start (totals start end ss)
+-- of sections between the known heights `start` and `end`
+abbrev pub frameOf : ℤ → ℤ → ℤ → ℤ → List Section → Frame
+frameOf units prints start end ss = frame units prints start (totals units start end ss)
 
 -- of a line opened as o, up to its end height, which is a placeholder where the end is not known
 abbrev pub lineFrame : Opening → ℤ → List Section → Frame
-lineFrame o end ss = frame (o .start .height) (totalsBy (termsOf (o .class)) (totals (o .start .height) end ss))
+lineFrame o end ss = frame quarters wholes (o .start .height) (totalsBy (termsOf (o .class)) (totals quarters (o .start .height) end ss))
 
 -- the exact height at running sums q (of Q) and s (of R) is exactTop / (units × total) print units
 abbrev pub exactTop : Frame → ℤ → ℤ → ℤ
@@ -90,13 +86,13 @@ points f number ss = record { number = number; distance = pos 0; correction = po
 
 -- ---- the accidental error
 
--- t, hundredths of mm² per km
-abbrev pub accidental : Section → ℤ
-accidental x = roundEven (pos 500000 *ℤ (x .discrepancy *ℤ x .discrepancy)) (natAbs (x .distance))
+-- t, hundredths of mm² per km. D is in half mm or in equal parts of it, and `squared` is the square of their number: 1 for half mm
+abbrev pub accidental : ℕ → Section → ℤ
+accidental squared x = roundEven (pos 500000 *ℤ (x .discrepancy *ℤ x .discrepancy)) (squared * natAbs (x .distance))
 
 -- T: 0 where sections are levelled one way
-abbrev pub accidentalSum : Terms → List Section → ℤ
-accidentalSum terms ss = cond (terms .double) (sum (map accidental ss)) (pos 0)
+abbrev pub accidentalSum : Terms → ℕ → List Section → ℤ
+accidentalSum terms squared ss = cond (terms .double) (sum (map (accidental squared) ss)) (pos 0)
 
 -- 0 below 20 sections and where they are levelled one way; 1 for a T within its limit, 2 above
 abbrev pub verdict : Terms → ℕ → ℤ → ℕ
@@ -112,7 +108,8 @@ abbrev pub closing : Opening → ℤ → List Section → Closing
 closing o end ss =
     let f : Frame = lineFrame o end ss in
     let terms : Terms = termsOf (o .class) in
-    let t : ℤ = accidentalSum terms ss in
+    -- D is in half mm
+    let t : ℤ = accidentalSum terms 1 ss in
     record {
       -- W as printed, in the corrections' unit
       summary = record { closure = f .prints *ℤ f .closure; distance = f .total; count = length ss; accidental = t; verdict = verdict terms (length ss) t };

@@ -18,6 +18,16 @@ mostD = 100000
 abbrev pub mostT : ℕ
 mostT = 500000 * (mostD * mostD) + 1
 
+-- units to a millimetre, of Q and W and of printed heights, and the square of the parts of half a millimetre that D is in: documents 01 and 02 ask for no more
+abbrev pub mostUnits : ℕ
+mostUnits = 40
+
+abbrev pub mostPrints : ℕ
+mostPrints = 10
+
+abbrev pub mostSquared : ℕ
+mostSquared = 100
+
 -- what a class of line allows of T for each section: none allows as much
 abbrev pub mostAllowed : ℕ
 mostAllowed = 1000000
@@ -33,7 +43,7 @@ abbrev pub mostL : ℕ
 mostL = mostR * 64
 
 abbrev pub mostW : ℕ
-mostW = 4 * highest + mostSumQ + 4 * highest
+mostW = mostUnits * highest + mostSumQ + mostUnits * highest
 
 abbrev pub mostPrinted : ℕ
-mostPrinted = 499999999999999999
+mostPrinted = mostPrints * (mostUnits * highest + mostSumQ + mostW)

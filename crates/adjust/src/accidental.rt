@@ -4,10 +4,10 @@ ghost use mathlib.Core.List.{map};
 ghost use Prim.Native.Nat.{_≤_};
 ghost use lib.IntN.{natAbs, _+ℤ_};
 ghost use Rattle.numbers.specs.Numbers.{sum};
-ghost use Rattle.adjust.specs.Sizes.{mostD, mostSumT, mostAllowed};
+ghost use Rattle.adjust.specs.Sizes.{mostD, mostSumT, mostAllowed, mostSquared};
 ghost use Rattle.adjust.specs.Sections.{sectionsOf};
 ghost use Rattle.adjust.specs.Line.{accidental, accidentalSum, verdict};
-ghost use Rattle.adjust.specs.code.Bounds.{Fitted, LegBounds};
+ghost use Rattle.adjust.specs.code.Bounds.{OneTo, Fitted, LegBounds};
 use super::Section;
 use super::Sections;
 use super::table::section_at;
@@ -20,37 +20,41 @@ struct Total {
 }
 
 // t of one section more.
-fn with_square(t: Total, x: Section) -> Total
-    requires { ⌜ (natAbs (t .squares) ≤ mostSumT) × (natAbs (x .discrepancy) ≤ mostD) × LegBounds x ⌝ }
-    ensures { λ r. ⌜ r ≡ record { squares = t .squares +ℤ accidental x } ⌝ }
+fn with_square(t: Total, squared: i64, x: Section) -> Total
+    requires { ⌜ (natAbs (t .squares) ≤ mostSumT) × OneTo mostSquared squared × (natAbs (x .discrepancy) ≤ mostD) × LegBounds x ⌝ }
+    ensures { λ r. ⌜ r ≡ record { squares = t .squares +ℤ accidental (natAbs squared) x } ⌝ }
 {
     let d = x.discrepancy;
     Total {
-        squares: t.squares + round_half_even(500000 * (d * d), x.distance),
+        squares: t.squares + round_half_even(500000 * (d * d), squared * x.distance),
     }
 }
 
 // The sum of t over the sections.
-fn squares_of(s: Sections) -> i64
-    requires { ⌜ Fitted s ⌝ }
-    ensures { λ r. ⌜ r ≡ sum (map accidental (sectionsOf s)) ⌝ }
+fn squares_of(squared: i64, s: Sections) -> i64
+    requires { ⌜ OneTo mostSquared squared × Fitted s ⌝ }
+    ensures { λ r. ⌜ r ≡ sum (map (accidental (natAbs squared)) (sectionsOf s)) ⌝ }
 {
     let count = s.count;
     let mut t = Total { squares: 0 };
     let mut k = 0;
     while k < count {
-        t = with_square(t, section_at(s, k));
+        t = with_square(t, squared, section_at(s, k));
         k += 1;
     }
     t.squares
 }
 
-// T: 0 where sections are levelled one way.
-pub(crate) fn accidental_sum(terms: Terms, s: Sections) -> i64
-    requires { ⌜ Fitted s ⌝ }
-    ensures { λ r. ⌜ r ≡ accidentalSum terms (sectionsOf s) ⌝ }
+// T: 0 where sections are levelled one way. `squared` is the square of the parts of half a millimetre that D is in: 1 for half mm.
+pub(crate) fn accidental_sum(terms: Terms, squared: i64, s: Sections) -> i64
+    requires { ⌜ OneTo mostSquared squared × Fitted s ⌝ }
+    ensures { λ r. ⌜ r ≡ accidentalSum terms (natAbs squared) (sectionsOf s) ⌝ }
 {
-    if terms.double { squares_of(s) } else { 0 }
+    if terms.double {
+        squares_of(squared, s)
+    } else {
+        0
+    }
 }
 
 // 0 for no verdict, 1 for a T within its limit, 2 for one above it.

@@ -9,8 +9,11 @@ ghost use Rattle.adjust.specs.declared.Point.{Point};
 ghost use Rattle.adjust.specs.Sections.{sectionsOf};
 ghost use Rattle.adjust.specs.Call.{adjustRefusal, heightsAfter};
 use super::Point;
+use super::QUARTERS;
 use super::Sections;
+use super::WHOLES;
 use super::height_in_range;
+use super::heights::frame_of;
 use super::heights::points_of;
 use super::sums::totals_between;
 use super::table::any_outside;
@@ -62,7 +65,8 @@ pub fn adjust(start: i64, end: i64, s: Sections, heights: &mut [i64]) -> Answer
     if code != 0 {
         return Answer::Refused(code);
     }
-    let points = points_of(start, totals_between(start, end, s), 0, s);
+    let t = totals_between(QUARTERS, start, end, s);
+    let points = points_of(frame_of(QUARTERS, WHOLES, start, t), 0, s);
     put_heights(points, s.count, heights);
     Answer::Taken
 }

@@ -19,6 +19,11 @@ use station::Instrument;
 use station::Staffs;
 use terms::Class;
 
+// The base's units to a millimetre: Q and W in quarter mm, printed heights in whole mm.
+const QUARTERS: i64 = 4;
+
+const WHOLES: i64 = 1;
+
 pub struct Benchmark {
     pub number: i64,
     pub height: i64,
@@ -86,6 +91,20 @@ pub struct Totals {
     pub distance: i64,
 }
 
+// What the heights of a line are computed from.
+pub struct Frame {
+    // The units of Q and W to a millimetre.
+    pub units: i64,
+    // The units of a printed height to a millimetre.
+    pub prints: i64,
+    // The known height at the start, in mm.
+    pub start: i64,
+    // W, in the units of Q.
+    pub closure: i64,
+    // L, in half dm.
+    pub total: i64,
+}
+
 // What is answered of the sections between two known heights: W and L, or that the figures do not fit.
 pub enum LineTotals {
     Totalled(Totals),
@@ -112,7 +131,7 @@ pub fn totals_of(start: i64, end: i64, s: Sections) -> LineTotals
     ensures { λ r. ⌜ r ≡ lineTotals start end (sectionsOf s) ⌝ }
 {
     if figures_fit(start, end, s) {
-        return LineTotals::Totalled(sums::totals_between(start, end, s));
+        return LineTotals::Totalled(sums::totals_between(QUARTERS, start, end, s));
     }
     LineTotals::NotTotalled
 }
@@ -125,13 +144,14 @@ fn closing_of(opening: Opening, end: i64, s: Sections) -> LineFigures
     let class = opening.class;
     let start = opening.start;
     let terms = terms::terms_of(class);
-    let t = sums::totals_by(terms, sums::totals_between(start.height, end, s));
-    let accidental = accidental::accidental_sum(terms, s);
+    let t = sums::totals_by(terms, sums::totals_between(QUARTERS, start.height, end, s));
+    let f = heights::frame_of(QUARTERS, WHOLES, start.height, t);
+    let accidental = accidental::accidental_sum(terms, 1, s);
     let verdict = accidental::verdict_of(terms, s.count, accidental);
-    let points = heights::points_of(start.height, t, start.number, s);
+    let points = heights::points_of(f, start.number, s);
     let summary = Summary {
-        closure: t.closure,
-        distance: t.distance,
+        closure: f.prints * f.closure,
+        distance: f.total,
         count: s.count,
         accidental: accidental,
         verdict: verdict,

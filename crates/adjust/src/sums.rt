@@ -3,7 +3,8 @@ ghost use mathlib.Core.Path.{_≡_};
 ghost use lib.IntN.{_+ℤ_};
 ghost use Rattle.adjust.specs.Sections.{sectionsOf};
 ghost use Rattle.adjust.specs.Line.{lineHeight, lineLength, totals, totalsBy};
-ghost use Rattle.adjust.specs.code.Bounds.{Fits, Between, LegBounds, Summed};
+ghost use Rattle.adjust.specs.Sizes.{mostUnits};
+ghost use Rattle.adjust.specs.code.Bounds.{OneTo, Fits, Between, LegBounds, Summed};
 use super::Section;
 use super::Sections;
 use super::Totals;
@@ -42,14 +43,14 @@ fn sums_of(s: Sections) -> Sums
     t
 }
 
-// W and L of the sections between two known heights.
-pub(crate) fn totals_between(start: i64, end: i64, s: Sections) -> Totals
-    requires { ⌜ Between start end s ⌝ }
-    ensures { λ r. ⌜ r ≡ totals start end (sectionsOf s) ⌝ }
+// W and L of the sections between two known heights; a millimetre is so many units of Q.
+pub(crate) fn totals_between(units: i64, start: i64, end: i64, s: Sections) -> Totals
+    requires { ⌜ OneTo mostUnits units × Between start end s ⌝ }
+    ensures { λ r. ⌜ r ≡ totals units start end (sectionsOf s) ⌝ }
 {
     let t = sums_of(s);
     Totals {
-        closure: 4 * start + t.height - 4 * end,
+        closure: units * start + t.height - units * end,
         distance: t.distance,
     }
 }

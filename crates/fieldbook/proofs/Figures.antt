@@ -19,7 +19,8 @@ use Rattle.station.specs.declared.Staffs.the-variants.{Nominal}
 use Rattle.adjust.specs.declared.terms.Class.{Class}
 use Rattle.adjust.specs.declared.terms.Class.the-variants.{Third, Fourth, Spur}
 use Rattle.adjust.specs.declared.Section.{Section}
-use Rattle.adjust.specs.Line.{Frame, exactTop, accidental, accidentalSum, verdict}
+use Rattle.adjust.specs.declared.Frame.{Frame}
+use Rattle.adjust.specs.Line.{exactTop, accidental, accidentalSum, verdict}
 use Rattle.adjust.proofs.Lists.{Fit, fit-head, fit-tail}
 use Rattle.adjust.specs.declared.terms.Terms.{Terms}
 use Rattle.adjust.specs.Sizes.{mostL}
@@ -43,23 +44,24 @@ narrow-head x xs e =
 -- ---- the line
 
 -- t and T are not below 0
-accidental-low : (x : Section) → pos 1 ≤ℤ x .distance → pos 0 ≤ℤ accidental x
-accidental-low x long =
-    let d : ℕ = natAbs (x .distance) in
+accidental-low : (squared : ℕ) → 0 < squared → (x : Section) → pos 1 ≤ℤ x .distance → pos 0 ≤ℤ accidental squared x
+accidental-low squared u x long =
+    let d : ℕ = squared * natAbs (x .distance) in
     let square : ℤ = x .discrepancy *ℤ x .discrepancy in
-    let some : 0 < d = omega (ints, parts-abs (x .distance)) in
+    let far : 0 < natAbs (x .distance) = omega (ints, parts-abs (x .distance)) in
+    let some : 0 < d = mul-le-mul u far in
     let above : (pos d *ℤ pos 0) ≤ℤ (pos 500000 *ℤ square) =
     omega (ints, parts-times d (pos 0), parts-times 500000 square, ap negPart (square-abs (x .discrepancy))) in
     rw (round-exact (pos 0) d some) at (round-mono (pos d *ℤ pos 0) (pos 500000 *ℤ square) d some above)
 
-pub sum-low : (terms : Terms) (ss : List Section) → Fit ss → pos 0 ≤ℤ accidentalSum terms ss
-sum-low terms ss f = go (terms .double)
+pub sum-low : (terms : Terms) (squared : ℕ) → 0 < squared → (ss : List Section) → Fit ss → pos 0 ≤ℤ accidentalSum terms squared ss
+sum-low terms squared u ss f = go (terms .double)
   where
-    all : (xs : List Section) → Fit xs → pos 0 ≤ℤ sum (map accidental xs)
+    all : (xs : List Section) → Fit xs → pos 0 ≤ℤ sum (map (accidental squared) xs)
     all [] g = omega ints
-    all (x ∷ xs) g = omega (ints, parts-add (accidental x) (sum (map accidental xs)), accidental-low x (fit-head x xs g .long), all xs (fit-tail x xs g))
+    all (x ∷ xs) g = omega (ints, parts-add (accidental squared x) (sum (map (accidental squared) xs)), accidental-low squared u x (fit-head x xs g .long), all xs (fit-tail x xs g))
 
-    go : (t : Bool) → pos 0 ≤ℤ cond t (sum (map accidental ss)) (pos 0)
+    go : (t : Bool) → pos 0 ≤ℤ cond t (sum (map (accidental squared) ss)) (pos 0)
     go true = all ss f
     go false = omega ints
 

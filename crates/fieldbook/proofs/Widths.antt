@@ -21,7 +21,8 @@ use Rattle.adjust.specs.declared.Section.{Section}
 use Rattle.adjust.specs.Claims.{Near, next-section}
 use Rattle.adjust.specs.declared.terms.Terms.{Terms}
 use Rattle.adjust.specs.Sizes.{mostL}
-use Rattle.adjust.specs.Line.{Frame, lineFrame, Closing, closing, closure, lineLength, pointAfter, pointsAfter, sectionPoints, printedHeight, accidentalSum}
+use Rattle.adjust.specs.declared.Frame.{Frame}
+use Rattle.adjust.specs.Line.{quarters, wholes, lineFrame, Closing, closing, closure, lineLength, pointAfter, pointsAfter, sectionPoints, printedHeight, accidentalSum}
 use Rattle.adjust.proofs.Lines.{line-near}
 use Rattle.adjust.proofs.Lists.{Fit, fit-head, fit-tail, fitted-legs}
 use Rattle.adjust.proofs.Sized.{long, length-size, in-range}
@@ -149,14 +150,14 @@ module _ (v : LineState) (i : Kept v) (shut : v .line .stage ≡ Closed) (small 
   summary-fits =
       let terms : Terms = termsOf (v .line .opening .class) in
       closed-fits (gave .summary) (omega (arith, small, abs-mul (pos 1) (framed .closure))) (omega (ints, some), omega (ints, short)) (i .few)
-      (sum-low terms ss fit) (verdict-small terms (length ss) (accidentalSum terms ss))
+      (sum-low terms 1 (omega arith) ss fit) (verdict-small terms (length ss) (accidentalSum terms 1 ss))
 
   all-fit : All pointFits (gave .points)
   all-fit =
       all-cons pointFits _ (sectionPoints framed ss)
       (point-fits _ (omega (arith, i .number)) (omega ints, omega ints) (omega arith) (omega (arith, begins, abs-mul (pos 1) start)))
       (points-fit start (framed .closure) (lineLength ss) begins small some short (pos 0) (pos 0) (pos 1 *ℤ start) ss fit (subst (λ (c : Staffs). All (narrow c) ss) (i .nominal) (i .narrow-sections)) (omega (arith, i .few)) (omega ints)
-      (omega (ints, parts-add (pos 0) (lineLength ss))) (line-near ss some (v .line .opening) (v .line .end)))
+      (omega (ints, parts-add (pos 0) (lineLength ss))) (line-near 4 (omega arith) wholes ss some start (framed .closure)))
 
 -- W is small where END was taken, by the test 36, and 0 where FIN was
 closed-small : (r : Reading) (c : Call) → ClosedBy r c → Plain.refusal r c ≡ 0 → Kept (plainState (Plain.taken r c))
@@ -165,13 +166,13 @@ closed-small r (close-line n end) (by-end m h tied) e k =
     let v : LineState = plainState r in
     let class : Class = r .opening .class in
     let l : ℤ = lineLength (v .sections) in
-    let w : ℤ = closure (r .opening .start .height) end (v .sections) in
+    let w : ℤ = closure quarters (r .opening .start .height) end (v .sections) in
     let short : l ≤ℤ pos mostL = omega (ints, length-size (v .sections) (fitted-legs (v .sections) (k .fit)), k .few, parts-abs l) in
     let small : natAbs w ≤ mostClosure = closure-small class w l (not-false (closureWithin (termsOf class) w l) (fails v (close-line n end) e 36)) short in
     subst (λ (t : Bool). natAbs (cond t w (pos 0)) ≤ mostClosure) (sym tied) small
 closed-small r (close-spur n) (by-fin m loose) e k =
     let v : LineState = plainState r in
-    subst (λ (t : Bool). natAbs (cond t (closure (r .opening .start .height) (pos 0) (v .sections)) (pos 0)) ≤ mostClosure) (sym loose) (omega arith)
+    subst (λ (t : Bool). natAbs (cond t (closure quarters (r .opening .start .height) (pos 0) (v .sections)) (pos 0)) ≤ mostClosure) (sym loose) (omega arith)
 
 pub figures-fit : FiguresFit
 figures-fit calls e =

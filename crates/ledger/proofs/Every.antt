@@ -3,6 +3,7 @@ use mathlib.Core.Path.{_≡_, refl, sym, ap, subst, _∙_}
 use mathlib.Core.Bool.{Bool, true, false, not, cond, _||_}
 use mathlib.Core.List.{List, [], _∷_, _++_, map}
 use mathlib.Core.Option.{Option, none, some}
+use native.Mathlib.Omega.{arith}
 use lib.Dec.{eqb, eqb→eq}
 use lib.IntN.{ℤ, pos, _*ℤ_, +ℤ-idl}
 use lib.Signed.{_≤ℤ_}
@@ -16,7 +17,8 @@ use Rattle.adjust.specs.declared.Opening.{Opening}
 use Rattle.adjust.specs.declared.Point.{Point}
 use Rattle.adjust.specs.declared.Summary.{Summary}
 use Rattle.adjust.specs.Terms.{termsOf}
-use Rattle.adjust.specs.Line.{Frame, frame, closure, points, Closing, closing, lineLength}
+use Rattle.adjust.specs.declared.Frame.{Frame}
+use Rattle.adjust.specs.Line.{quarters, wholes, frame, closure, points, Closing, closing, lineLength}
 use Rattle.adjust.proofs.Lines.{line-sound, line-near, raw-heights}
 use Rattle.rules.specs.declared.Stage.{Stage}
 use Rattle.rules.specs.declared.Stage.the-variants.{Closed}
@@ -182,7 +184,7 @@ module _ (v : LineState) where
 
   -- the line's frame, and its closing, by whether it is tied to a known height
   abbrev framed : Bool → Frame
-  framed t = frame (o .start .height) (record { closure = cond t (closure (o .start .height) (v .line .end) (v .sections)) (pos 0); distance = lineLength (v .sections) })
+  framed t = frame quarters wholes (o .start .height) (record { closure = cond t (closure quarters (o .start .height) (v .line .end) (v .sections)) (pos 0); distance = lineLength (v .sections) })
 
   abbrev closedWith : Bool → Closing
   closedWith t =
@@ -195,19 +197,19 @@ module _ (v : LineState) where
   module _ (h : pos 1 ≤ℤ lineLength (v .sections)) where
     ends : (t : Bool) → Ends t (v .line .end) (closedWith t)
     ends true =
-        let s = line-sound (v .sections) h (o .start .height) (v .line .end) in
+        let s = line-sound 4 (omega arith) wholes (v .sections) h (o .start .height) (v .line .end) in
         record { used-up = +ℤ-idl _ ∙ s .used-up; last = s .last ∙ one-mulℤ (v .line .end) }
     ends false = refl
 
     sound : SoundClosing v (closing o (v .line .end) (v .sections))
-    sound = record { figures = refl; long = h; near = line-near (v .sections) h o (v .line .end); ends = ends (termsOf (o .class) .tied) }
+    sound = record { figures = refl; long = h; near = line-near 4 (omega arith) wholes (v .sections) h (o .start .height) (framed (termsOf (o .class) .tied) .closure); ends = ends (termsOf (o .class) .tied) }
 
 pub spur-heights : SpurHeights
 spur-heights v gave s e =
     let heights : List Point → List ℤ = λ ps. map (λ (p : Point). p .height) (others ps) in
     let long = subst (λ (c : Closing). pos 1 ≤ℤ c .summary .distance) (s .figures) (s .long) in
     ap (λ (c : Closing). heights (c .points)) (s .figures) ∙ ap (λ (t : Bool). heights (closedWith v t .points)) e
-    ∙ raw-heights (v .line .opening .start .height) (lineLength (v .sections)) long (v .sections)
+    ∙ raw-heights 4 (omega arith) (v .line .opening .start .height) (lineLength (v .sections)) long (v .sections)
 
 -- by END or by FIN: 41 tells which of them closes a line
 closed-by : (r : Reading) (c : Call) → isClosing c ≡ true → refusal r c ≡ 0 → ClosedBy r c

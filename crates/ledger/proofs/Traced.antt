@@ -18,7 +18,8 @@ use Rattle.adjust.specs.declared.Point.{Point}
 use Rattle.adjust.specs.declared.Summary.{Summary}
 use Rattle.adjust.specs.declared.Opening.{Opening}
 use Rattle.adjust.specs.Sections.{sectionsOf}
-use Rattle.adjust.specs.Line.{Frame, points, lineFrame, Closing, closing}
+use Rattle.adjust.specs.declared.Frame.{Frame}
+use Rattle.adjust.specs.Line.{points, lineFrame, Closing, closing}
 use Rattle.adjust.specs.Frames.{noPoint}
 use Rattle.adjust.proofs.Lists.{points-length}
 use Rattle.adjust.proofs.Refused.{number-of-answer}

@@ -10,7 +10,7 @@ use lib.Signed.{_≤ℤ_}
 use Rattle.numbers.specs.Tables.{Lowest}
 use Rattle.adjust.specs.declared.Point.{Point}
 use Rattle.adjust.specs.Terms.{termsOf}
-use Rattle.adjust.specs.Line.{lineFrame, Closing, closing}
+use Rattle.adjust.specs.Line.{quarters, lineFrame, Closing, closing}
 use Rattle.adjust.specs.Claims.{Near, corrections, lastHeight, rawHeights}
 use Rattle.rules.specs.declared.Stage.the-variants.{Open, Closed}
 use Rattle.rules.specs.LineState.{LineState}
@@ -49,7 +49,7 @@ pub record SoundClosing (v : LineState) (gave : Closing) : Type 0 where
 abbrev pub SpurHeights : Type 0
 SpurHeights =
     (v : LineState) (gave : Closing) → SoundClosing v gave → termsOf (v .line .opening .class) .tied ≡ false
-    → map (λ (p : Point). p .height) (others (gave .points)) ≡ rawHeights (pos 4 *ℤ v .line .opening .start .height) (v .sections)
+    → map (λ (p : Point). p .height) (others (gave .points)) ≡ rawHeights 4 (quarters *ℤ v .line .opening .start .height) (v .sections)
 
 -- the call that closes a line: END where it is tied to a known height, and FIN where it is not, as on a spur
 pub data ClosedBy (r : Reading) : Call → Type 0 where

@@ -10,7 +10,8 @@ use Rattle.station.specs.declared.Staffs.the-variants.{Nominal}
 use Rattle.station.specs.Station.{Station, stationOf, sightDifference, faceDifference, twiceHeight}
 use Rattle.adjust.specs.declared.Section.{Section}
 use Rattle.adjust.specs.declared.Point.{Point}
-use Rattle.adjust.specs.Line.{Frame, frameOf, exactTop, closure, Closing, accidental}
+use Rattle.adjust.specs.declared.Frame.{Frame}
+use Rattle.adjust.specs.Line.{quarters, wholes, frameOf, exactTop, closure, Closing, accidental}
 use Rattle.rules.specs.LineState.{LineState, outwardOrReturn, bothWays}
 use Rattle.rules.specs.Rules.{Call, open-line, station, end-run, close-line, open-spur, close-spur, collimation}
 use Rattle.ledger.specs.Plain.{freshReading, after, refusals, plainState, runOf, closings}
@@ -85,7 +86,7 @@ returned red =
     outwardOrReturn (v .line .waiting) [] (λ number run. bothWays number run (v .line .present) ∷ [])
 
 abbrev twoFrame : ℕ → ℕ → Frame
-twoFrame start end = frameOf (pos start) (pos end) (plainState (after freshReading (two start end)) .sections)
+twoFrame start end = frameOf quarters wholes (pos start) (pos end) (plainState (after freshReading (two start end)) .sections)
 
 abbrev section : ℕ → ℕ → ℕ → ℕ → Section
 section n q r d = record { number = pos n; height = pos q; distance = pos r; discrepancy = pos d }
@@ -111,14 +112,14 @@ pub record Starred : Type 0 where
   pub section-1 : plainState (after freshReading (one 10000 10651)) .sections ≡ section 2 2632 2564 0 ∷ []
   pub w28 : closures (closings freshReading (one 10000 10651)) ≡ pos 28 ∷ []
   pub w28-taken : refusals freshReading (one 10000 10651) ≡ 0 ∷ 0 ∷ 0 ∷ 0 ∷ 0 ∷ 0 ∷ []
-  pub w32 : closure (pos 10000) (pos 10650) (plainState (after freshReading (one 10000 10650)) .sections) ≡ pos 32
+  pub w32 : closure quarters (pos 10000) (pos 10650) (plainState (after freshReading (one 10000 10650)) .sections) ≡ pos 32
   pub w32-refused : refusals freshReading (one 10000 10650) ≡ 0 ∷ 0 ∷ 0 ∷ 0 ∷ 0 ∷ 36 ∷ []
   -- R 2564: the end of a return with D 8 is taken, with D 9 refused
   pub d8 : returned 6067 ≡ section 2 2624 2564 8 ∷ []
   pub d8-taken : refusals freshReading (outAndBack 6067) ≡ 0 ∷ 0 ∷ 0 ∷ 0 ∷ 0 ∷ 0 ∷ 0 ∷ 0 ∷ []
   pub d9 : returned 6066 ≡ section 2 2623 2564 9 ∷ []
   pub d9-refused : refusals freshReading (outAndBack 6066) ≡ 0 ∷ 0 ∷ 0 ∷ 0 ∷ 0 ∷ 0 ∷ 0 ∷ 32 ∷ []
-  pub t : accidental (section 2 0 20000 24) ≡ pos 14400
+  pub t : accidental 1 (section 2 0 20000 24) ≡ pos 14400
   -- A's section 2 twice: the middle is 21099 / 2 and 21101 / 2, at Q 2200 and R 1600
   pub section-2 : plainState (after freshReading (two 10000 11099)) .sections ≡ section 2 2200 1600 0 ∷ section 3 2200 1600 0 ∷ []
   pub tie-1-w : closures (closings freshReading (two 10000 11099)) ≡ pos 4 ∷ []
@@ -244,7 +245,7 @@ pub record ShortWorked : Type 0 where
   pub spur-1999 : (short spur 250 249 6 6 ≡ ends 0) × (short spur 250 249 7 6 ≡ ends 32)
   pub spur-2000 : (short spur 250 250 6 6 ≡ ends 0) × (short spur 250 250 7 6 ≡ ends 32)
   -- t keeps R itself
-  pub t-16 : (accidental (section 2 0 16 7) ≡ pos 1531250) × (accidental (section 2 0 16 12) ≡ pos 4500000)
+  pub t-16 : (accidental 1 (section 2 0 16 7) ≡ pos 1531250) × (accidental 1 (section 2 0 16 12) ≡ pos 4500000)
 
 pub short-worked : ShortWorked
 unfolding roundEven isWithin withinAngle

@@ -50,7 +50,7 @@ pub lengths : orders (λ o. map (lengthLimit (termsOf o)) (false ∷ true ∷ []
     ≡ (pos 3000000 ∷ pos 4000000 ∷ []) ∷ (pos 1600000 ∷ pos 2000000 ∷ []) ∷ []
 lengths = refl
 
-pub sums : classes (λ o. accidentalSum (termsOf o) (kilometre 24 ∷ kilometre 24 ∷ [])) ≡ pos 28800 ∷ pos 0 ∷ pos 28800 ∷ []
+pub sums : classes (λ o. accidentalSum (termsOf o) 1 (kilometre 24 ∷ kilometre 24 ∷ [])) ≡ pos 28800 ∷ pos 0 ∷ pos 28800 ∷ []
 unfolding roundEven
 sums = refl
 

@@ -25,7 +25,7 @@ use Rattle.adjust.specs.declared.terms.Class.the-variants.{Third, Fourth, Spur}
 use Rattle.adjust.specs.declared.terms.Root.{Root}
 use Rattle.adjust.specs.declared.terms.Terms.{Terms}
 use Rattle.adjust.specs.Terms.{orderOf, termsOf}
-use Rattle.adjust.specs.Line.{totals}
+use Rattle.adjust.specs.Line.{quarters, totals}
 use Rattle.rules.specs.declared.Stage.the-variants.{Open, Closed}
 use Rattle.rules.specs.declared.Run.{Run}
 use Rattle.rules.specs.declared.Waiting.{Waiting}
@@ -109,7 +109,7 @@ abbrev pub totalTests : Terms → Bool → Totals → List (ℕ × Bool)
 totalTests terms loop t = (35, not (leZ (t .distance) (lengthLimit terms loop))) ∷ (36, not (closureWithin terms (t .closure) (t .distance))) ∷ []
 
 abbrev pub lineTests : LineState → ℤ → List (ℕ × Bool)
-lineTests v end = totalTests (termsOf (v .line .opening .class)) (isShut v) (totals (v .line .opening .start .height) end (v .sections))
+lineTests v end = totalTests (termsOf (v .line .opening .class)) (isShut v) (totals quarters (v .line .opening .start .height) end (v .sections))
 
 -- of a station with the figures f, whose back staff has the constant kb
 abbrev pub stationTests : Line → Bool → ℤ → Figures → List (ℕ × Bool)

@@ -5,7 +5,7 @@ use Rattle.adjust.specs.declared.LineTotals.{LineTotals}
 use Rattle.adjust.specs.declared.LineTotals.the-variants.{Totalled}
 use Rattle.adjust.specs.Sections.{sectionsOf}
 use Rattle.adjust.specs.Frames.{lineTotals}
-use Rattle.adjust.proofs.Sized.{fitting, totals-by}
+use Rattle.adjust.proofs.Sized.{quarters-in, fitting, totals-by}
 use borrow.Author.Needs.{needs}
 use Rattle.adjust.proofs.totals_of.Statement.{statement}
 use Rattle.adjust.proofs.totals_of.Tie as tie
@@ -14,7 +14,7 @@ figures-fit-requires : tie.Need-figures-fit-requires
 figures-fit-requires c κs = search needs
 
 totals-between-requires : tie.Need-totals-between-requires
-totals-between-requires c κs = fitting _ _ (c .before .before .args .s) (sym (c .before .figures-fit .ensures) ∙ c .if1 .taken) .0
+totals-between-requires c κs = (quarters-in, fitting _ _ (c .before .before .args .s) (sym (c .before .figures-fit .ensures) ∙ c .if1 .taken) .0)
 
 -- an answer by the machine's heights is the one by the heights
 answered : (s : tie.Start) {r : LineTotals} → lineTotals (stored (s .args .start)) (stored (s .args .end)) (sectionsOf (s .args .s)) ≡ r

@@ -7,11 +7,16 @@ use lib.Signed.{_≤ℤ_}
 use Rattle.numbers.specs.Numbers.{anyOf}
 use Rattle.adjust.specs.declared.Section.{Section}
 use Rattle.adjust.specs.declared.Sections.{Sections}
-use Rattle.adjust.specs.declared.Totals.{Totals}
+use Rattle.adjust.specs.declared.Frame.{Frame}
 use Rattle.adjust.specs.declared.sums.Sums.{Sums}
 use Rattle.adjust.specs.declared.heights.Progress.{Progress}
-use Rattle.adjust.specs.Sizes.{highest, mostQ, mostR, mostL, mostW, mostPrinted}
+use Rattle.adjust.specs.Sizes.{highest, mostQ, mostR, mostUnits, mostPrints, mostL, mostW, mostPrinted}
 use Rattle.adjust.specs.Sections.{sectionsOf, legFits, anyOutside}
+
+-- from 1 to k
+pub record OneTo (k : ℕ) (n : ℤ) : Type 0 where
+  pub least : pos 1 ≤ℤ n
+  pub most : natAbs n ≤ k
 
 -- at most 64 sections, Q and R of each in the wider range
 pub record Fits (s : Sections) : Type 0 where
@@ -40,15 +45,21 @@ pub record Summed (k : ℕ) (t : Sums) : Type 0 where
   pub height : natAbs (t .height) ≤ mostQ * k
   pub distance : natAbs (t .distance) ≤ mostR * k
 
--- the known height at the start, and W and L, of up to 64 sections
-pub record Framed (start : ℤ) (t : Totals) : Type 0 where
-  pub height : natAbs start ≤ highest
-  pub closure : natAbs (t .closure) ≤ mostW
-  pub distance : natAbs (t .distance) ≤ mostL
-  pub long : pos 1 ≤ℤ t .distance
+-- a frame of up to 64 sections
+pub record Framed (f : Frame) : Type 0 where
+  pub units : OneTo mostUnits (f .units)
+  pub prints : OneTo mostPrints (f .prints)
+  pub start : natAbs (f .start) ≤ highest
+  pub closure : natAbs (f .closure) ≤ mostW
+  pub total : OneTo mostL (f .total)
+
+-- a distance that is on the line
+pub record Along (f : Frame) (s : ℤ) : Type 0 where
+  pub begun : pos 0 ≤ℤ s
+  pub within : s ≤ℤ f .total
 
 -- the running sums and the last height after k of up to 64 sections
-pub record Reached (k : ℕ) (w : Progress) : Type 0 where
+pub record Reached (f : Frame) (k : ℕ) (w : Progress) : Type 0 where
   pub height : natAbs (w .height) ≤ mostQ * k
-  pub distance : natAbs (w .point .distance) ≤ mostR * k
+  pub along : Along f (w .point .distance)
   pub printed : natAbs (w .point .height) ≤ mostPrinted

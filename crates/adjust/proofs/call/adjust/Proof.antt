@@ -13,14 +13,14 @@ use Rattle.numbers.proofs.Machine.{stored, stored-both, holds-stored}
 use Rattle.records.specs.declared.Answer.the-variants.{Taken, Refused}
 use Rattle.adjust.specs.declared.Point.{Point}
 use Rattle.adjust.specs.declared.Section.{Section}
-use Rattle.adjust.specs.declared.Totals.{Totals}
 use Rattle.adjust.specs.Sections.{sectionsOf}
-use Rattle.adjust.specs.Line.{Frame, frame, frameOf, sectionPoints, points}
+use Rattle.adjust.specs.declared.Frame.{Frame}
+use Rattle.adjust.specs.Line.{quarters, wholes, frame, frameOf, sectionPoints, points}
 use Rattle.adjust.specs.Frames.{noPoint}
 use Rattle.adjust.specs.Call.{adjustRefusal, adjustedHeights, heightsAfter}
 use Rattle.adjust.specs.code.Bounds.{Between, Framed}
 use Rattle.adjust.proofs.Lists.{from-length, points-length}
-use Rattle.adjust.proofs.Sized.{framed, adjustable}
+use Rattle.adjust.proofs.Sized.{quarters-in, wholes-in, framed, adjustable}
 use Rattle.adjust.proofs.call.adjust.Statement.{statement}
 use Rattle.adjust.proofs.call.adjust.Tie as tie
 
@@ -66,14 +66,24 @@ between c = let s = c .before .before in adjustable (s .args .start) (s .args .e
 totals-between-requires : tie.Need-totals-between-requires
 totals-between-requires c κs =
     let s = c .before .before in
-    holds-stored (λ x y. Between x y (s .args .s)) (s .fits .start) (s .fits .end) (between c)
+    (quarters-in, holds-stored (λ x y. Between x y (s .args .s)) (s .fits .start) (s .fits .end) (between c))
+
+frame-of-requires : tie.Need-frame-of-requires
+frame-of-requires c κs = search needs
+
+-- the frame, by the machine's heights
+framed-is : (c : tie.After-frame-of)
+    → let s : tie.Start = c .before .before .before .before in c .frame-of .result ≡ frameOf quarters wholes (stored (s .args .start)) (stored (s .args .end)) (sectionsOf (s .args .s))
+framed-is c = c .frame-of .ensures ∙ ap (frame quarters wholes _) (c .before .totals-between .ensures)
 
 points-of-requires : tie.Need-points-of-requires
-points-of-requires c κs = (subst (Framed _) (sym (c .totals-between .ensures)) (framed (totals-between-requires (c .before) κs)), between (c .before) .fits)
+points-of-requires c κs =
+    let e = c .before .before in
+    (subst Framed (sym (framed-is c)) (framed quarters-in wholes-in (totals-between-requires e κs .1)), between e .fits, ap (λ (f : Frame). f .total) (framed-is c))
 
 put-heights-requires : tie.Need-put-heights-requires
 put-heights-requires c κs =
-    let e = c .before .before .before in
+    let e = c .before .before .before .before in
     let s = e .before .before in
     (between e .fits .few, adjustable (s .args .start) (s .args .end) (s .args .s) (length (s .args .heights .now)) (taken e) .1)
 
@@ -86,15 +96,15 @@ returns-2 c =
     let put = c .before in
     let p = put .before .before in
     let k = p .before in
-    let e = k .before in
+    let e = k .before .before in
     let s = e .before .before in
     let ss = sectionsOf (s .args .s) in
-    let f = frameOf (s .args .start) (s .args .end) ss in
+    let f = frameOf quarters wholes (s .args .start) (s .args .end) ss in
     let zero = taken e in
     let shown =
     p .points-of .ensures
-    ∙ ap (λ (t : Totals). filled noPoint 65 (points (frame (stored (s .args .start)) t) (pos 0) ss)) (k .totals-between .ensures)
-    ∙ stored-both (λ x y. filled noPoint 65 (points (frameOf x y ss) (pos 0) ss)) (s .fits .start) (s .fits .end) in
+    ∙ ap (λ (f : Frame). filled noPoint 65 (points f (pos 0) ss)) (framed-is k)
+    ∙ stored-both (λ x y. filled noPoint 65 (points (frameOf quarters wholes x y ss) (pos 0) ss)) (s .fits .start) (s .fits .end) in
     let wrote =
     put .put-heights .ensures
     ∙ ap (λ (xs : List Point). over (map (λ (p : Point). p .height) (take (s .args .s .count) (drop 1 xs))) (s .args .heights .now)) shown
@@ -105,4 +115,4 @@ returns-2 c =
 pub adjust-spec : {M : Type 1} → statement M
 adjust-spec =
     tie.close
-    (tie.spec adjust-refusal-requires returns totals-between-requires points-of-requires put-heights-requires same-length returns-2)
+    (tie.spec adjust-refusal-requires returns totals-between-requires frame-of-requires points-of-requires put-heights-requires same-length returns-2)

@@ -1,30 +1,33 @@
--- `points_of` meets its contract. The loop's invariant: with the points that are left to write, all are written.
+-- `points_of` meets its contract. The loop's invariant: with the points that are left to write, all are written, and with the sections that are left the distance is L.
 use mathlib.Core.Path.{_≡_, refl, sym, ap, subst, _∙_}
 use mathlib.Core.List.{List, [], _∷_}
 use Prim.Native.Nat.{ℕ, _+_, _-_, _*_, _≤_, _<_}
 use native.Mathlib.Omega.{arith}
 use lib.ListN.{length, set, replicate, length-set}
-use lib.IntN.{ℤ, pos, natAbs, _+ℤ_, _*ℤ_}
+use lib.IntN.{ℤ, pos, natAbs, _+ℤ_, _*ℤ_, +ℤ-assoc, +ℤ-idl}
+use lib.Signed.{_≤ℤ_}
 use borrow.Author.Needs.{needs}
 use mir.Syntax.{w64}
 use mir.Val.{toZ}
 use Rattle.numbers.specs.Numbers.{over, putAt, filled}
-use Rattle.numbers.proofs.Ring.{one-mulℤ}
+use Rattle.numbers.proofs.Parts.{ints, parts-add}
 use Rattle.numbers.proofs.Sizes.{abs-add}
 use Rattle.numbers.proofs.Arrays.{put-cons, put-all, written-fits}
-use Rattle.numbers.proofs.Machine.{stored, stored-id, stored-both}
+use Rattle.numbers.proofs.Machine.{stored, stored-id}
+use Rattle.numbers.proofs.Chain.{Value, known, mul, fits, kept}
 use Rattle.adjust.specs.declared.Point.{Point}
 use Rattle.adjust.specs.declared.Section.{Section}
 use Rattle.adjust.specs.declared.Sections.{Sections}
-use Rattle.adjust.specs.declared.Totals.{Totals}
+use Rattle.adjust.specs.declared.Frame.{Frame}
 use Rattle.adjust.specs.declared.heights.Progress.{Progress}
-use Rattle.adjust.specs.Sizes.{mostQ, mostR}
+use Rattle.adjust.specs.Sizes.{highest, mostQ, mostPrints}
 use Rattle.adjust.specs.Sections.{sectionAt, sectionsOf}
-use Rattle.adjust.specs.Line.{Frame, frame, pointAfter, pointsAfter, points}
+use Rattle.adjust.specs.Line.{lineLength, pointAfter, pointsAfter, points}
 use Rattle.adjust.specs.Frames.{noPoint}
-use Rattle.adjust.specs.code.Bounds.{LegBounds, Framed, Reached}
+use Rattle.adjust.specs.code.Bounds.{LegBounds, Framed, Along, Reached}
 use Rattle.adjust.proofs.Lists.{remaining, all-remain, next-remains, none-remain, from-length, Fit, fit-head, fit-tail, points-length}
 use Rattle.adjust.proofs.Bounded.{printed-size}
+use Rattle.adjust.proofs.Sized.{long}
 use Rattle.adjust.proofs.heights.points_of.Statement.{statement}
 use Rattle.adjust.proofs.heights.points_of.Tie as tie
 
@@ -35,62 +38,89 @@ coming f s w k = pointsAfter f (w .height) (w .point .distance) (w .point .heigh
 -- before place k is visited
 record Going (f : Frame) (number : ℤ) (s : Sections) (array : List Point) (w : Progress) (k : ℕ) : Type 0 where
   place : k ≤ s .count
-  reached : Reached k w
+  reached : Reached f k w
   fit : Fit (remaining s k)
-  long : length array ≡ 65
+  ends : w .point .distance +ℤ lineLength (remaining s k) ≡ f .total
+  room : length array ≡ 65
   left : putAt array (k + 1) (coming f s w k) ≡ over (points f number (sectionsOf s)) (replicate 65 noPoint)
 
 abbrev startPoint : ℤ → ℤ → Point
 startPoint number height = record { number = number; distance = pos 0; correction = pos 0; height = height }
 
-begun : (start : ℤ) (t : Totals) (number : ℤ) (s : Sections) → Framed start t → Fit (sectionsOf s)
-    → let p : Point = startPoint number start in Going (frame start t) number s (filled noPoint 65 (p ∷ [])) (record { height = pos 0; point = p }) 0
+-- the height at the start
+first : (f : Frame) → Framed f → Value (stored (f .prints) *ℤ stored (f .start)) (f .prints *ℤ f .start) (mostPrints * highest)
+first f h = mul (known (f .prints) (h .prints .most) tt) (known (f .start) (h .start) tt)
+
+begun : (f : Frame) (number : ℤ) (s : Sections) → Framed f → Fit (sectionsOf s) → f .total ≡ lineLength (sectionsOf s)
+    → let p : Point = startPoint number (f .prints *ℤ f .start) in Going f number s (filled noPoint 65 (p ∷ [])) (record { height = pos 0; point = p }) 0
 unfolding putAt
-begun start t number s h fit =
+begun f number s h fit whole =
     record {
       place = omega arith;
-      reached = record { height = omega arith; distance = omega arith; printed = omega (arith, h .height) };
+      reached = record { height = omega arith; along = record { begun = omega ints; within = omega (ints, h .total .least) }; printed = omega (arith, first f h .size) };
       fit = subst Fit (sym (all-remain s)) fit;
-      long = refl;
-      left = λ i.
-          let h : ℤ = sym (one-mulℤ start) i in
-          over (startPoint number h ∷ pointsAfter (frame start t) (pos 0) (pos 0) h (all-remain s i)) (replicate 65 noPoint);
+      ends = +ℤ-idl (lineLength (remaining s 0)) ∙ ap lineLength (all-remain s) ∙ sym whole;
+      room = refl;
+      left = ap (λ (xs : List Section). over (startPoint number (f .prints *ℤ f .start) ∷ pointsAfter f (pos 0) (pos 0) (f .prints *ℤ f .start) xs) (replicate 65 noPoint)) (all-remain s);
     }
 
 abbrev moved : Frame → Progress → Section → Progress
 moved f w x = record { height = w .height +ℤ x .height; point = pointAfter f (w .height) (w .point .distance) (w .point .height) x }
 
-module _ {start : ℤ} {t : Totals} {number : ℤ} {s : Sections} {array : List Point} {w : Progress} {k : ℕ} (here : k < s .count) (few : s .count ≤ 64) (g : Going (frame start t) number s array w k) where
-  leg : LegBounds (sectionAt s k)
-  leg = fit-head (sectionAt s k) (remaining s (k + 1)) (subst Fit (next-remains s k here) (g .fit))
+module _ {f : Frame} {number : ℤ} {s : Sections} {array : List Point} {w : Progress} {k : ℕ} (here : k < s .count) (few : s .count ≤ 64) (g : Going f number s array w k) where
+  abbrev x : Section
+  x = sectionAt s k
 
-  reached-63 : Reached 63 w
-  reached-63 =
-      record { height = omega (arith, g .reached .height); distance = omega (arith, g .reached .distance); printed = g .reached .printed }
+  fits-next : Fit (x ∷ remaining s (k + 1))
+  fits-next = subst Fit (next-remains s k here) (g .fit)
 
-  next : Framed start t → let v : Progress = moved (frame start t) w (sectionAt s k) in Going (frame start t) number s (set array (k + 1) (v .point)) v (k + 1)
+  leg : LegBounds x
+  leg = fit-head x (remaining s (k + 1)) fits-next
+
+  reached-63 : Reached f 63 w
+  reached-63 = record { height = omega (arith, g .reached .height); along = g .reached .along; printed = g .reached .printed }
+
+  ends-next : w .point .distance +ℤ x .distance +ℤ lineLength (remaining s (k + 1)) ≡ f .total
+  ends-next =
+      +ℤ-assoc (w .point .distance) (x .distance) (lineLength (remaining s (k + 1)))
+      ∙ sym (ap (λ (xs : List Section). w .point .distance +ℤ lineLength xs) (next-remains s k here))
+      ∙ g .ends
+
+  -- the sections behind this one are not shorter than nothing
+  along : Along f (w .point .distance +ℤ x .distance)
+  along =
+      let d : ℤ = w .point .distance +ℤ x .distance in
+      let rest = remaining s (k + 1) in
+      let before : d ≤ℤ (d +ℤ lineLength rest) = omega (ints, parts-add d (lineLength rest), long rest (fit-tail x rest fits-next)) in
+      record {
+        begun = omega (ints, g .reached .along .begun, leg .long, parts-add (w .point .distance) (x .distance));
+        within = subst (λ (z : ℤ). d ≤ℤ z) ends-next before;
+      }
+
+  next : Framed f → let v : Progress = moved f w x in Going f number s (set array (k + 1) (v .point)) v (k + 1)
   next h =
-      let f = frame start t in
-      let x = sectionAt s k in
       let p = moved f w x .point in
       let q : natAbs (w .height +ℤ x .height) ≤ mostQ * (k + 1) = omega (arith, abs-add (w .height) (x .height), g .reached .height, leg .height) in
-      let r : natAbs (w .point .distance +ℤ x .distance) ≤ mostR * (k + 1) = omega (arith, abs-add (w .point .distance) (x .distance), g .reached .distance, leg .distance) in
       record {
         place = omega arith;
-        reached = record { height = q; distance = r; printed = printed-size start t (w .height +ℤ x .height) (w .point .distance +ℤ x .distance) h (omega arith) (omega arith) };
-        fit = fit-tail x (remaining s (k + 1)) (subst Fit (next-remains s k here) (g .fit));
-        long = length-set array (k + 1) p ∙ g .long;
+        reached = record { height = q; along = along; printed = printed-size f (w .height +ℤ x .height) (w .point .distance +ℤ x .distance) h (omega arith) along };
+        fit = fit-tail x (remaining s (k + 1)) fits-next;
+        ends = ends-next;
+        room = length-set array (k + 1) p ∙ g .room;
         left =
-            put-cons array (k + 1) p (coming f s (moved f w x) (k + 1)) (omega (arith, g .long))
+            put-cons array (k + 1) p (coming f s (moved f w x) (k + 1)) (omega (arith, g .room))
             ∙ sym (ap (λ (xs : List Section). putAt array (k + 1) (pointsAfter f (w .height) (w .point .distance) (w .point .height) xs)) (next-remains s k here))
             ∙ g .left;
       }
 
 abbrev Inv-loop : tie.InvT-loop
-Inv-loop start t number s count points₀ w₀ k₀ points w k = Going (frame (toZ w64 start) t) (toZ w64 number) s points w k
+Inv-loop f number s count points₀ w₀ k₀ points w k = Going f (toZ w64 number) s points w k
 
 abbrev μ-loop : tie.MeasureT-loop
-μ-loop start t number s count points₀ w₀ k₀ points w k = s .count - k
+μ-loop f number s count points₀ w₀ k₀ points w k = s .count - k
+
+mul-t10 : tie.Need-mul-t10 Inv-loop μ-loop
+mul-t10 c = let s = c .before .before in fits (first (s .args .f) (s .pre .0)) tt
 
 no-points-requires : tie.Need-no-points-requires Inv-loop μ-loop
 no-points-requires c κs = search needs
@@ -98,27 +128,28 @@ no-points-requires c κs = search needs
 array-set-from-points : tie.Need-array-set-from-points Inv-loop μ-loop
 array-set-from-points c = omega arith
 
-framed : (s : tie.Start Inv-loop μ-loop) → Framed (stored (s .args .start)) (s .args .t)
-framed s = subst (λ (z : ℤ). Framed z (s .args .t)) (sym (stored-id (s .fits .start))) (s .pre .0)
-
 loop-holds : tie.Need-loop-holds Inv-loop μ-loop
 loop-holds c =
-    let s = c .before in
-    let b = stored (s .args .start) in
+    let s = c .before .before .before in
+    let f = s .args .f in
     let n = stored (s .args .number) in
-    let p = startPoint n b in
-    subst (λ (ps : List Point). Going (frame b (s .args .t)) n (s .args .s) (set ps 0 p) (record { height = pos 0; point = p }) 0) (sym (c .no-points .ensures))
-    (begun b (s .args .t) n (s .args .s) (framed s) (s .pre .1 .legs))
+    let p : ℤ → Point = startPoint n in
+    subst (λ (z : ℤ). Going f n (s .args .s) (set (c .no-points .result) 0 (p z)) (record { height = pos 0; point = p z }) 0) (sym (kept (first f (s .pre .0)) tt .is))
+    (subst (λ (ps : List Point). Going f n (s .args .s) (set ps 0 (p (f .prints *ℤ f .start))) (record { height = pos 0; point = p (f .prints *ℤ f .start) }) 0) (sym (c .no-points .ensures))
+    (begun f n (s .args .s) (s .pre .0) (s .pre .1 .legs) (s .pre .2)))
 
 section-at-requires : tie.Need-section-at-requires Inv-loop μ-loop
-section-at-requires c κs = omega (arith, c .before .before .before .pre .1 .few)
+section-at-requires c κs = omega (arith, c .before .before .before .before .before .pre .1 .few)
 
 next-point-requires : tie.Need-next-point-requires Inv-loop μ-loop
 next-point-requires c κs =
     let l = c .before .before in
-    let s = l .before .before in
+    let s = l .before .before .before .before in
     let here = c .before .loop-test .taken in
-    (framed s, reached-63 here (s .pre .1 .few) (l .loop .inv), subst LegBounds (sym (c .section-at .ensures)) (leg here (s .pre .1 .few) (l .loop .inv)))
+    let few = s .pre .1 .few in
+    let g = l .loop .inv in
+    let e = sym (c .section-at .ensures) in
+    (s .pre .0, reached-63 here few g, subst LegBounds e (leg here few g), subst (λ (y : Section). Along (s .args .f) (l .loop .w .point .distance +ℤ y .distance)) e (along here few g))
 
 add-k : tie.Need-add-k Inv-loop μ-loop
 add-k c = omega arith
@@ -135,23 +166,23 @@ loop-less c = omega arith
 loop-again : tie.Need-loop-again Inv-loop μ-loop
 loop-again c =
     let l = c .before .before .before .before in
-    let s = l .before .before in
-    let f = frame (stored (s .args .start)) (s .args .t) in
+    let s = l .before .before .before .before in
+    let f = s .args .f in
     let e = c .before .next-point .ensures ∙ ap (moved f (l .loop .w)) (c .before .before .section-at .ensures) in
     subst (λ (w : Progress). Going f (stored (s .args .number)) (s .args .s) (set (l .loop .points) (l .loop .k + 1) (w .point)) w (l .loop .k + 1)) (sym e)
-    (next (c .before .before .before .loop-test .taken) (s .pre .1 .few) (l .loop .inv) (framed s))
+    (next (c .before .before .before .loop-test .taken) (s .pre .1 .few) (l .loop .inv) (s .pre .0))
 
 returns : tie.Need-returns Inv-loop μ-loop
 returns c =
     let l = c .before in
-    let s = l .before .before in
-    let f = frame (stored (s .args .start)) (s .args .t) in
+    let s = l .before .before .before .before in
+    let f = s .args .f in
     let ss = sectionsOf (s .args .s) in
     let none = ap (pointsAfter f (l .loop .w .height) (l .loop .w .point .distance) (l .loop .w .point .height)) (none-remain (s .args .s) (l .loop .k) (c .loop-test .left)) in
     put-all (l .loop .points) (l .loop .k + 1) none (l .loop .inv .left)
-    ∙ stored-both (λ b n. over (points (frame b (s .args .t)) n ss) (replicate 65 noPoint)) (s .fits .start) (s .fits .number)
-    ∙ sym (written-fits (points (frame (s .args .start) (s .args .t)) (s .args .number) ss) (replicate 65 noPoint)
-    (omega (arith, s .pre .1 .few, from-length (s .args .s) 0 (s .args .s .count), points-length (frame (s .args .start) (s .args .t)) (pos 0) (pos 0) (pos 1 *ℤ s .args .start) ss)))
+    ∙ ap (λ (n : ℤ). over (points f n ss) (replicate 65 noPoint)) (stored-id (s .fits .number))
+    ∙ sym (written-fits (points f (s .args .number) ss) (replicate 65 noPoint)
+    (omega (arith, s .pre .1 .few, from-length (s .args .s) 0 (s .args .s .count), points-length f (pos 0) (pos 0) (f .prints *ℤ f .start) ss)))
 
 pub points-of-spec : {M : Type 1} → statement M
 points-of-spec =
@@ -159,6 +190,7 @@ points-of-spec =
     (tie.spec
     Inv-loop
     μ-loop
+    mul-t10
     no-points-requires
     array-set-from-points
     loop-holds

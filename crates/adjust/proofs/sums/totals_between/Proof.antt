@@ -2,11 +2,11 @@
 use mathlib.Core.Path.{_≡_, ap, _∙_}
 use Prim.Native.Nat.{_+_, _*_, _≤_}
 use native.Mathlib.Omega.{arith}
-use lib.IntN.{ℤ, pos, natAbs, _+ℤ_, _-ℤ_, _*ℤ_}
+use lib.IntN.{ℤ, natAbs, _+ℤ_, _-ℤ_, _*ℤ_}
 use Rattle.numbers.proofs.Machine.{stored}
-use Rattle.numbers.proofs.Chain.{Value, known, literal, add, sub, mul, fits, kept}
+use Rattle.numbers.proofs.Chain.{Value, known, add, sub, mul, fits, kept}
 use Rattle.adjust.specs.declared.sums.Sums.{Sums}
-use Rattle.adjust.specs.Sizes.{highest, mostSumQ, mostL, mostW}
+use Rattle.adjust.specs.Sizes.{highest, mostUnits, mostSumQ, mostL, mostW}
 use Rattle.adjust.specs.Sections.{sectionsOf}
 use Rattle.adjust.specs.Line.{lineHeight, lineLength}
 use Rattle.adjust.proofs.Lists.{from-length}
@@ -15,7 +15,7 @@ use Rattle.adjust.proofs.sums.totals_between.Statement.{statement}
 use Rattle.adjust.proofs.sums.totals_between.Tie as tie
 
 sums-of-requires : tie.Need-sums-of-requires
-sums-of-requires c κs = c .pre .fits
+sums-of-requires c κs = c .pre .1 .fits
 
 module _ (c : tie.After-sums-of) where
   abbrev s : tie.Start
@@ -29,37 +29,40 @@ module _ (c : tie.After-sums-of) where
 
   height-small : natAbs (c .sums-of .result .height) ≤ mostSumQ
   height-small =
-      omega (arith, ap natAbs height-is, from-length (s .args .s) 0 (s .args .s .count), height-size (sectionsOf (s .args .s)) (s .pre .fits .legs), s .pre .fits .few)
+      omega (arith, ap natAbs height-is, from-length (s .args .s) 0 (s .args .s .count), height-size (sectionsOf (s .args .s)) (s .pre .1 .fits .legs), s .pre .1 .fits .few)
 
   distance-small : natAbs (c .sums-of .result .distance) ≤ mostL
   distance-small =
-      omega (arith, ap natAbs distance-is, from-length (s .args .s) 0 (s .args .s .count), length-size (sectionsOf (s .args .s)) (s .pre .fits .legs), s .pre .fits .few)
+      omega (arith, ap natAbs distance-is, from-length (s .args .s) 0 (s .args .s .count), length-size (sectionsOf (s .args .s)) (s .pre .1 .fits .legs), s .pre .1 .fits .few)
 
-  four-start : Value (pos 4 *ℤ stored (s .args .start)) (pos 4 *ℤ s .args .start) (4 * highest)
-  four-start = mul (literal (pos 4)) (known (s .args .start) (s .pre .start-size) tt)
+  abbrev units : Value (stored (s .args .units)) (s .args .units) mostUnits
+  units = known (s .args .units) (s .pre .0 .most) tt
 
-  four-end : Value (pos 4 *ℤ stored (s .args .end)) (pos 4 *ℤ s .args .end) (4 * highest)
-  four-end = mul (literal (pos 4)) (known (s .args .end) (s .pre .end-size) tt)
+  begin : Value (stored (s .args .units) *ℤ stored (s .args .start)) (s .args .units *ℤ s .args .start) (mostUnits * highest)
+  begin = mul units (known (s .args .start) (s .pre .1 .start-size) tt)
 
-  raw : Value (stored (pos 4 *ℤ stored (s .args .start)) +ℤ stored (c .sums-of .result .height)) (pos 4 *ℤ s .args .start +ℤ c .sums-of .result .height) (4 * highest + mostSumQ)
-  raw = add (kept four-start tt) (known (c .sums-of .result .height) height-small tt)
+  end : Value (stored (s .args .units) *ℤ stored (s .args .end)) (s .args .units *ℤ s .args .end) (mostUnits * highest)
+  end = mul units (known (s .args .end) (s .pre .1 .end-size) tt)
+
+  raw : Value (stored (stored (s .args .units) *ℤ stored (s .args .start)) +ℤ stored (c .sums-of .result .height)) (s .args .units *ℤ s .args .start +ℤ c .sums-of .result .height) (mostUnits * highest + mostSumQ)
+  raw = add (kept begin tt) (known (c .sums-of .result .height) height-small tt)
 
   closure :
-      Value (stored (stored (pos 4 *ℤ stored (s .args .start)) +ℤ stored (c .sums-of .result .height)) -ℤ stored (pos 4 *ℤ stored (s .args .end)))
-      (pos 4 *ℤ s .args .start +ℤ c .sums-of .result .height -ℤ pos 4 *ℤ s .args .end) mostW
-  closure = sub (kept raw tt) (kept four-end tt)
+      Value (stored (stored (stored (s .args .units) *ℤ stored (s .args .start)) +ℤ stored (c .sums-of .result .height)) -ℤ stored (stored (s .args .units) *ℤ stored (s .args .end)))
+      (s .args .units *ℤ s .args .start +ℤ c .sums-of .result .height -ℤ s .args .units *ℤ s .args .end) mostW
+  closure = sub (kept raw tt) (kept end tt)
 
-mul-t5 : tie.Need-mul-t5
-mul-t5 c = fits (four-start c) tt
+mul-t6 : tie.Need-mul-t6
+mul-t6 c = fits (begin c) tt
 
-add-t6 : tie.Need-add-t6
-add-t6 c = fits (raw (c .before .before)) tt
+add-t7 : tie.Need-add-t7
+add-t7 c = fits (raw (c .before .before)) tt
 
-mul-t7 : tie.Need-mul-t7
-mul-t7 c = fits (four-end (c .before .before)) tt
+mul-t8 : tie.Need-mul-t8
+mul-t8 c = fits (end (c .before .before)) tt
 
-sub-t8 : tie.Need-sub-t8
-sub-t8 c = fits (closure (c .before .before)) tt
+sub-t9 : tie.Need-sub-t9
+sub-t9 c = fits (closure (c .before .before)) tt
 
 returns : tie.Need-returns
 returns c =
@@ -67,9 +70,9 @@ returns c =
     let s = r .before in
     λ i.
     record {
-      closure = (kept (closure r) tt .is ∙ ap (λ (z : ℤ). pos 4 *ℤ s .args .start +ℤ z -ℤ pos 4 *ℤ s .args .end) (height-is r)) i;
+      closure = (kept (closure r) tt .is ∙ ap (λ (z : ℤ). s .args .units *ℤ s .args .start +ℤ z -ℤ s .args .units *ℤ s .args .end) (height-is r)) i;
       distance = (known (r .sums-of .result .distance) (distance-small r) tt .is ∙ distance-is r) i;
     }
 
 pub totals-between-spec : {M : Type 1} → statement M
-totals-between-spec = tie.close (tie.spec sums-of-requires mul-t5 add-t6 mul-t7 sub-t8 returns)
+totals-between-spec = tie.close (tie.spec sums-of-requires mul-t6 add-t7 mul-t8 sub-t9 returns)

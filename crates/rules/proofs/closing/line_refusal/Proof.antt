@@ -10,7 +10,7 @@ use Rattle.adjust.specs.declared.Totals.{Totals}
 use Rattle.adjust.specs.declared.LineTotals.{LineTotals}
 use Rattle.adjust.specs.declared.LineTotals.the-variants.{Totalled, NotTotalled}
 use Rattle.adjust.specs.Sections.{sectionsOf}
-use Rattle.adjust.specs.Line.{totals}
+use Rattle.adjust.specs.Line.{quarters, totals}
 use Rattle.adjust.specs.Frames.{lineTotals}
 use Rattle.adjust.proofs.Sized.{totals-by}
 use Rattle.rules.specs.Rules.{totalTests}
@@ -46,7 +46,7 @@ some (Totalled t) = true
 some NotTotalled = false
 
 fit : (m : tie.After-totals-of) → m .totals-of .result
-    ≡ Totalled (totals (m .before .before .before .before .args .line .opening .start .height) (m .before .before .before .before .args .end) (sectionsOf (m .before .before .before .before .args .sections)))
+    ≡ Totalled (totals quarters (m .before .before .before .before .args .line .opening .start .height) (m .before .before .before .before .args .end) (sectionsOf (m .before .before .before .before .args .sections)))
 fit m =
     let s = m .before .before .before .before in
     let a = s .args in
