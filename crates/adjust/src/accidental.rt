@@ -12,7 +12,7 @@ use super::{Section, Sections};
 use roots::rounding::round_half_even;
 
 // T so far.
-#[derive(Drop)]
+#[derive(Clone, Copy)]
 struct Total {
     squares: i64,
 }

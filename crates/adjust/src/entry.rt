@@ -12,7 +12,7 @@ use records::Answer;
 
 // A section as it is lent: its height difference Q in quarter mm, its distance R in half dm.
 #[repr(C)]
-#[derive(Drop)]
+#[derive(Clone, Copy)]
 pub struct Leg {
     pub height: i64,
     pub distance: i64,

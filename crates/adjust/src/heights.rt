@@ -24,7 +24,7 @@ pub(crate) fn frame_of(units: i64, prints: i64, start: i64, t: Totals) -> Frame
 }
 
 // The running sum of Q, and the last point.
-#[derive(Drop)]
+#[derive(Clone, Copy)]
 struct Progress {
     height: i64,
     point: Point,

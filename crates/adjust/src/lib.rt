@@ -22,14 +22,14 @@ const QUARTERS: i64 = 4;
 
 const WHOLES: i64 = 1;
 
-#[derive(Drop)]
+#[derive(Clone, Copy)]
 pub struct Benchmark {
     pub number: i64,
     pub height: i64,
 }
 
 // What a line is opened with, its staffs' constants, and whether its level's collimation was tested since.
-#[derive(Drop)]
+#[derive(Clone, Copy)]
 pub struct Opening {
     pub class: Class,
     pub instrument: Instrument,
@@ -40,7 +40,7 @@ pub struct Opening {
 
 // A finished section: the benchmark that it ends on, its height difference Q in quarter mm, its distance R in half dm, and the discrepancy D
 // of its two runs in half mm, 0 for one run.
-#[derive(Drop)]
+#[derive(Clone, Copy)]
 pub struct Section {
     pub number: i64,
     pub height: i64,
@@ -49,7 +49,7 @@ pub struct Section {
 }
 
 // The sections of a line in arrays. Places from count on do not count.
-#[derive(Drop)]
+#[derive(Clone, Copy)]
 pub struct Sections {
     pub count: usize,
     pub numbers: [i64; 64],
@@ -59,7 +59,7 @@ pub struct Sections {
 }
 
 // A benchmark of the closed line: its distance from the start in half dm, the correction of the section before it in quarter mm, its height in mm.
-#[derive(Drop)]
+#[derive(Clone, Copy)]
 pub struct Point {
     pub number: i64,
     pub distance: i64,
@@ -68,7 +68,7 @@ pub struct Point {
 }
 
 // W in quarter mm, L in half dm, n, T in hundredths of mm² per km, and the verdict.
-#[derive(Drop)]
+#[derive(Clone, Copy)]
 pub struct Summary {
     pub closure: i64,
     pub distance: i64,
@@ -78,28 +78,28 @@ pub struct Summary {
 }
 
 // What is answered of a line: its summary, or that it is not adjusted, as where its figures do not fit.
-#[derive(Drop)]
+#[derive(Clone, Copy)]
 pub enum LineSummary {
     Adjusted(Summary),
     NotAdjusted,
 }
 
 // And its points: the start and one for each section, zeros behind them; none of a line that is not adjusted.
-#[derive(Drop)]
+#[derive(Clone, Copy)]
 pub struct LineFigures {
     pub answer: LineSummary,
     pub points: [Point; 65],
 }
 
 // W in quarter mm and L in half dm.
-#[derive(Drop)]
+#[derive(Clone, Copy)]
 pub struct Totals {
     pub closure: i64,
     pub distance: i64,
 }
 
 // What the heights of a line are computed from.
-#[derive(Drop)]
+#[derive(Clone, Copy)]
 pub struct Frame {
     // The units of Q and W to a millimetre.
     pub units: i64,
@@ -114,7 +114,7 @@ pub struct Frame {
 }
 
 // What is answered of the sections between two known heights: W and L, or that the figures do not fit.
-#[derive(Drop)]
+#[derive(Clone, Copy)]
 pub enum LineTotals {
     Totalled(Totals),
     NotTotalled,

@@ -9,7 +9,7 @@ use super::table::section_at;
 use super::terms::Terms;
 use super::{Section, Sections, Totals};
 
-#[derive(Drop)]
+#[derive(Clone, Copy)]
 struct Sums {
     height: i64,
     distance: i64,

@@ -6,7 +6,7 @@ use station::Order;
 
 // What a line is opened as.
 // A spur is of fourth order, levelled out and back from a known height to an end that is not known.
-#[derive(Drop)]
+#[derive(Clone, Copy)]
 pub enum Class {
     Third,
     Fourth,
@@ -14,13 +14,13 @@ pub enum Class {
 }
 
 // A root limit: x is within the root of l where a × x² ≤ b × l.
-#[derive(Drop)]
+#[derive(Clone, Copy)]
 pub struct Root {
     pub a: u16,
     pub b: u16,
 }
 
-#[derive(Drop)]
+#[derive(Clone, Copy)]
 pub struct Terms {
     // Whether sections are levelled out and back, by double levelling: 'the first ended run waits; the second is its return'. Where not, 'an ended run is a section'.
     pub double: bool,

@@ -12,35 +12,35 @@ pub mod calls;
 mod storing;
 
 // What any call answers, by the refusal number, and the book that it leaves: the very book where it is refused.
-#[derive(Drop)]
+#[derive(Clone, Copy)]
 pub struct Step {
     pub number: u8,
     pub book: Book,
 }
 
 // The same of a call but closing, its answer by its case.
-#[derive(Drop)]
+#[derive(Clone, Copy)]
 pub struct Outcome {
     pub answer: Answer,
     pub book: Book,
 }
 
 // What closing answers: W, L, n, T and the verdict, or the refusal.
-#[derive(Drop)]
+#[derive(Clone, Copy)]
 pub enum CloseAnswer {
     Closed(Summary),
     NotClosed(u8),
 }
 
 // The figures of a closed line: that answer, with the points: the start and one for each section, zeros behind them; none where there are no values.
-#[derive(Drop)]
+#[derive(Clone, Copy)]
 pub struct ClosedFigures {
     pub answer: CloseAnswer,
     pub points: [Point; 65],
 }
 
 // And the book that closing leaves.
-#[derive(Drop)]
+#[derive(Clone, Copy)]
 pub struct CloseOutcome {
     pub answer: CloseAnswer,
     pub book: Book,

@@ -8,7 +8,7 @@ pub mod storing;
 
 // What a call makes of a book: the refusal number, 0 where the call is taken; the line that it leaves; whether it finishes a section, and which.
 // It holds no array.
-#[derive(Drop)]
+#[derive(Clone, Copy)]
 pub struct Change {
     pub number: u8,
     pub line: Line,

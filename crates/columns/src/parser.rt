@@ -9,14 +9,14 @@ use super::bytes::same_bytes;
 use records::{Kind, Tag};
 
 // A field of a line.
-#[derive(Drop)]
+#[derive(Clone, Copy)]
 pub enum Field {
     Number(i64),
     Bad,
 }
 
 // A line, with its numbers; the places past them, and all places of a refused line, are 0.
-#[derive(Drop)]
+#[derive(Clone, Copy)]
 pub struct TextLine {
     pub kind: Kind,
     pub values: [i64; 10],

@@ -8,7 +8,7 @@ use textbook::reader::read_text;
 mod printing;
 
 // The report's length, or the refusal number of document 01.
-#[derive(Drop)]
+#[derive(Clone, Copy)]
 pub enum Reduced {
     Written(usize),
     Refused(u8),

@@ -1,6 +1,6 @@
 // The records of a levelling book: one for each call, named by its tag in the text book (document 01, 'The text book and the report'; document 02, W-202 and W-204).
 
-#[derive(Drop)]
+#[derive(Clone, Copy)]
 pub enum Tag {
     // open the line
     Lin,
@@ -23,14 +23,14 @@ pub enum Tag {
 }
 
 // What an entry of a book is: a record with this tag, or none and refused with this number.
-#[derive(Drop)]
+#[derive(Clone, Copy)]
 pub enum Kind {
     Record(Tag),
     Refused(u8),
 }
 
 // A call's answer: it is taken, or refused with this number.
-#[derive(Drop)]
+#[derive(Clone, Copy)]
 pub enum Answer {
     Taken,
     Refused(u8),

@@ -3,7 +3,7 @@ ghost use Rattle.std.specs.Prelude.{◌≡◌, ◌*◌, ◌<◌, leb};
 ghost use Rattle.roots.specs.code.Wide.{Digits, value_of};
 
 // hi * 2^40 + lo, with lo below 2^40.
-#[derive(Drop)]
+#[derive(Clone, Copy)]
 struct Wide {
     hi: u64,
     lo: u64,

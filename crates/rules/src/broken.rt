@@ -58,7 +58,7 @@ pub(crate) fn line_broken(line: Line, count: usize) -> bool
 }
 
 // Whether a line is broken, and where it is not, whether its loop is shut.
-#[derive(Drop)]
+#[derive(Clone, Copy)]
 pub(crate) struct Seen {
     pub(crate) broken: bool,
     pub(crate) shut: bool,

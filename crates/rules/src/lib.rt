@@ -6,7 +6,7 @@ pub mod closing;
 pub mod position;
 pub mod refusals;
 
-#[derive(Drop)]
+#[derive(Clone, Copy)]
 pub enum Stage {
     Fresh,
     Open,
@@ -14,7 +14,7 @@ pub enum Stage {
 }
 
 // A run: how many stations, G in half mm, s in dm, the sum of d in dm, and the constant of the last fore staff, 0 for none.
-#[derive(Drop)]
+#[derive(Clone, Copy)]
 pub struct Run {
     pub count: usize,
     pub height: i64,
@@ -24,14 +24,14 @@ pub struct Run {
 }
 
 // What waits for its return: nothing, or an outward run and the number that it ended on.
-#[derive(Drop)]
+#[derive(Clone, Copy)]
 pub enum Waiting {
     Nothing,
     Outward(i64, Run),
 }
 
 // All of a line but its finished sections. The end height is 0 until the line is closed, and on a spur.
-#[derive(Drop)]
+#[derive(Clone, Copy)]
 pub struct Line {
     pub stage: Stage,
     pub opening: Opening,
@@ -40,7 +40,7 @@ pub struct Line {
     pub present: Run,
 }
 
-#[derive(Drop)]
+#[derive(Clone, Copy)]
 pub struct Book {
     pub line: Line,
     pub sections: Sections,

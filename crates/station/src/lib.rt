@@ -8,28 +8,28 @@ ghost use Rattle.station.specs.Station.{staffOf, stationOf, sightingOf, twiceHei
 
 use roots::limits::magnitude;
 
-#[derive(Drop)]
+#[derive(Clone, Copy)]
 pub enum Order {
     Third,
     Fourth,
 }
 
 // DS3, or one of the better instruments, DS1 and DS05.
-#[derive(Drop)]
+#[derive(Clone, Copy)]
 pub enum Instrument {
     Ds3,
     Ds1,
 }
 
 // The constants of the two staffs: the nominal 4,687 and 4,787 mm, or those that were measured, in tenths of a millimetre, of the staff 4,687 first.
-#[derive(Drop)]
+#[derive(Clone, Copy)]
 pub enum Staffs {
     Nominal,
     Measured(u16, u16),
 }
 
 // The limits that an order and an instrument set: dm for sights; for faces mm, or the part of it in which the constants are given.
-#[derive(Drop)]
+#[derive(Clone, Copy)]
 pub struct Limits {
     pub sight: u64,
     pub difference: u64,
@@ -39,14 +39,14 @@ pub struct Limits {
 }
 
 // What one staff shows: its sight in dm and its face difference e in mm, or in that part.
-#[derive(Drop)]
+#[derive(Clone, Copy)]
 pub struct Sighting {
     pub sight: i64,
     pub face: i64,
 }
 
 // Both staffs, d in dm, and twice the station height in half mm, or in half of that part.
-#[derive(Drop)]
+#[derive(Clone, Copy)]
 pub struct Figures {
     pub back: Sighting,
     pub fore: Sighting,
@@ -55,7 +55,7 @@ pub struct Figures {
 }
 
 // What readings are: those of a station, with its figures, or refused with this number of document 01.
-#[derive(Drop)]
+#[derive(Clone, Copy)]
 pub enum Readings {
     Station(Figures),
     Refused(u8),

@@ -7,14 +7,14 @@ ghost use Rattle.textbook.specs.code.State.{textFrom, textState, textRead};
 use super::text::{State, read_from};
 
 // A text, and the number of the line that is read next, counted from 1.
-#[derive(Drop)]
+#[derive(Clone, Copy)]
 pub(crate) struct Reader<'a> {
     text: &'a [u8],
     line: usize,
 }
 
 // Document 01's number, 9 where a text is too long and 0 otherwise, and what the text leaves.
-#[derive(Drop)]
+#[derive(Clone, Copy)]
 pub struct TextRead {
     pub number: u8,
     pub state: State,

@@ -14,7 +14,7 @@ use records::Kind;
 use rules::{Book, Line};
 
 // What a text leaves: the book, and each line's refusal number in the line's place, 0 where it was taken or not read.
-#[derive(Drop)]
+#[derive(Clone, Copy)]
 pub struct State {
     pub book: Book,
     pub refusals: [u8; 778],
@@ -22,7 +22,7 @@ pub struct State {
 
 // What a line of the text is answered with, by the refusal number, and what it leaves beside the lists of the sections: the levelling line, and how many
 // sections there are.
-#[derive(Drop)]
+#[derive(Clone, Copy)]
 struct Taken {
     code: u8,
     line: Line,

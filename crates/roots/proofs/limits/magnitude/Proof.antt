@@ -27,12 +27,12 @@ module _ (x : ℤ) (f : SFits w64 x) (test : lt_z (stored x) (pos 0) ≡ true) w
       sub_as (literal-as (negsuc 0)) (stored-id f)
       ∙ parts-eq (negsuc 0 -ℤ x) (pos (nat_abs x - 1)) (omega (ints, below, parts-sub (negsuc 0) x, parts-abs x))
 
-sub-result : tie.Need-overflow-sub-result
+sub-result : tie.Need-overflow_sub-result
 sub-result c =
     let x = c.before.args.x in let f = c.before.ranges.x in let e = c.if1.true in
     fits-as (less x f e) (less-fits x f e)
 
-cast-result : tie.Need-overflow-cast-result
+cast-result : tie.Need-overflow_cast-result
 cast-result c =
     let x = c.before.args.x in let f = c.before.ranges.x in let e = c.if1.true in
     cast_fits (stored-as (less x f e) (less-fits x f e)) (omega ints) (omega (arith, more x f e, fits-abs f))
@@ -42,7 +42,7 @@ returns c =
     let x = c.before.args.x in let f = c.before.ranges.x in let e = c.if1.true in
     ap (λ (z : ℤ). nat_abs z + 1) (stored-as (less x f e) (less-fits x f e)) ∙ more x f e
 
-add-result : tie.Need-overflow-add-result
+add-result : tie.Need-overflow_add-result
 add-result c = record { fits = omega (arith, returns c, fits-abs c.before.ranges.x) }
 
 cast-result-2 : tie.Need-overflow-cast-result-2

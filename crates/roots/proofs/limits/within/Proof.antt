@@ -35,7 +35,7 @@ some a b x l k = λ i. le_z (pos a *ℤ sym (square-abs x) i) (pos b *ℤ pos-ab
 magnitude-requires : tie.Need-magnitude-requires
 magnitude-requires c κs = search rules
 
-at-most-requires : tie.Need-at-most-requires
+at-most-requires : tie.Need-at_most-requires
 at-most-requires c κs = search rules
 
 cast-at-most : tie.Need-overflow-cast-at-most

@@ -34,10 +34,10 @@ select-requires-2 c κs = search rules
 
 returns : tie.Need-returns
 returns c =
-    let inner : SFits w64 c.before.select.result = record { sfits = c.before.select.type-inv } in
-    let outer : SFits w64 c.select2.result = record { sfits = c.select2.type-inv } in
+    let inner : SFits w64 c.before.select.result = record { sfits = c.before.select.type_inv } in
+    let outer : SFits w64 c.select-2.result = record { sfits = c.select-2.type_inv } in
     let d = stored-id c.before.before.ranges.d in
-    stored-id outer ∙ c.select2.ensures
+    stored-id outer ∙ c.select-2.ensures
     ∙ cond-as (lt-as d (literal-as (pos 1))) (literal-as (pos 1))
     (stored-id inner ∙ c.before.select.ensures
     ∙ cond-as (lt-as (literal-as (pos greatestDivisor)) d) (literal-as (pos greatestDivisor)) d)

@@ -5,16 +5,16 @@ use Rattle.roots.proofs.Division.{divides, raise, raise-fits, raised, raised-fit
 use Rattle.roots.proofs.rounding.excess_of.Statement.{statement}
 use Rattle.roots.proofs.rounding.excess_of.Tie as tie
 
-rem-r : tie.Need-nonzero-rem-r
+rem-r : tie.Need-nonzero_rem-r
 rem-r c = divides c.ranges.n c.ranges.d c.requires
 
-cast-result : tie.Need-overflow-cast-result
+cast-result : tie.Need-overflow_cast-result
 cast-result c = search rules
 
-mul-result : tie.Need-overflow-mul-result
+mul-result : tie.Need-overflow_mul-result
 mul-result c = fits-as (raise c.ranges.n c.ranges.d c.requires) (raise-fits c.ranges.n c.ranges.d c.requires)
 
-add-result : tie.Need-overflow-add-result
+add-result : tie.Need-overflow_add-result
 add-result c = fits-as (raised c.ranges.n c.ranges.d c.requires) (raised-fits c.ranges.n c.ranges.d c.requires)
 
 returns : tie.Need-returns

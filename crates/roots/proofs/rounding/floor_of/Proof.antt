@@ -7,16 +7,16 @@ use Rattle.roots.proofs.Division.{divides, floored}
 use Rattle.roots.proofs.rounding.floor_of.Statement.{statement}
 use Rattle.roots.proofs.rounding.floor_of.Tie as tie
 
-div-result : tie.Need-nonzero-div-result
+div-result : tie.Need-nonzero_div-result
 div-result c = divides c.ranges.n c.ranges.d c.requires
 
-rem-result : tie.Need-nonzero-rem-result
+rem-result : tie.Need-nonzero_rem-result
 rem-result c = divides c.ranges.n c.ranges.d c.requires
 
-cast-result : tie.Need-overflow-cast-result
+cast-result : tie.Need-overflow_cast-result
 cast-result c = search rules
 
-sub-result : tie.Need-overflow-sub-result
+sub-result : tie.Need-overflow_sub-result
 sub-result c = fits-as (floored c.ranges.n c.ranges.d c.requires) (floor-fits c.args.n (nat_abs c.args.d) c.ranges.n)
 
 returns : tie.Need-returns

@@ -151,22 +151,22 @@ given c =
       r-is = c.excess-of.ensures ∙ (λ i. n i -ℤ e i *ℤ floorDiv (n i) (nat_abs (e i)));
     }
 
-rem-odd : tie.Need-nonzero-rem-odd
+rem-odd : tie.Need-nonzero_rem-odd
 rem-odd c = odd-fits (given c)
 
-mul-result : tie.Need-overflow-mul-result
+mul-result : tie.Need-overflow_mul-result
 mul-result c = fits-as (double-as (given c)) (double-fits (given c))
 
-mul-result-2 : tie.Need-overflow-mul-result-2
+mul-result-2 : tie.Need-overflow_mul-result-2
 mul-result-2 c = fits-as (square-as (given c)) (square-fits (given c))
 
-add-result : tie.Need-overflow-add-result
+add-result : tie.Need-overflow_add-result
 add-result c = fits-as (sum-as (given c)) (sum_fits (given c))
 
-cast-result : tie.Need-overflow-cast-result
+cast-result : tie.Need-overflow_cast-result
 cast-result c = search rules
 
-add-result-2 : tie.Need-overflow-add-result-2
+add-result-2 : tie.Need-overflow_add-result-2
 add-result-2 c = fits-as (result_as (given c)) (result_fits (given c))
 
 returns : tie.Need-returns

@@ -45,19 +45,19 @@ module _ {x y : ℤ} (b : Bool) (fx : SFits w64 x) (fy : SFits w64 y) where
   sum : stored (stored x *ℤ to_z w64 (bool_byte b)) +ℤ stored (stored y *ℤ stored (pos 1 -ℤ to_z w64 (bool_byte b))) ≡ cond b x y
   sum = add-as (stored-as first (first_fits x b fx)) (stored-as second (second_fits y b fy)) ∙ chosen x y b
 
-cast_t : tie.Need-overflow-cast-t
+cast_t : tie.Need-overflow_cast-t
 cast_t c = search rules
 
-mul-result : tie.Need-overflow-mul-result
+mul-result : tie.Need-overflow_mul-result
 mul-result c = fits-as (first c.args.b c.ranges.x c.ranges.y) (first_fits c.args.x c.args.b c.ranges.x)
 
-sub-result : tie.Need-overflow-sub-result
+sub-result : tie.Need-overflow_sub-result
 sub-result c = fits-as (rest c.args.b c.ranges.x c.ranges.y) (rest-fits c.args.b)
 
-mul-result-2 : tie.Need-overflow-mul-result-2
+mul-result-2 : tie.Need-overflow_mul-result-2
 mul-result-2 c = fits-as (second c.args.b c.ranges.x c.ranges.y) (second_fits c.args.y c.args.b c.ranges.y)
 
-add-result : tie.Need-overflow-add-result
+add-result : tie.Need-overflow_add-result
 add-result c = fits-as (sum c.args.b c.ranges.x c.ranges.y) (chosen-fits c.args.x c.args.y c.args.b c.ranges.x c.ranges.y)
 
 returns : tie.Need-returns

@@ -21,13 +21,13 @@ square-requires c κs = search rules
 times-requires : tie.Need-times-requires
 times-requires c κs = search rules
 
-wide-of-requires : tie.Need-wide-of-requires
+wide-of-requires : tie.Need-wide_of-requires
 wide-of-requires c κs = search rules
 
 times-requires-2 : tie.Need-times-requires-2
 times-requires-2 c κs = search rules
 
-not-above-requires : tie.Need-not-above-requires
+not-above-requires : tie.Need-not_above-requires
 not-above-requires c κs = search rules
 
 returns : tie.Need-returns

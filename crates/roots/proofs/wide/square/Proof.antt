@@ -34,19 +34,19 @@ parts m b =
       is = ap (λ (x : ℕ). x * x) e ∙ expand (m / 1048576) (m % 1048576) 1048576 ∙ omega arith;
     }
 
-mul-t : tie.Need-overflow-mul-t
+mul-t : tie.Need-overflow_mul-t
 mul-t c = record { fits = omega (arith, parts c.args.m c.requires) }
 
-mul-t-2 : tie.Need-overflow-mul-t-2
+mul-t-2 : tie.Need-overflow_mul-t-2
 mul-t-2 c = record { fits = omega (arith, parts c.args.m c.requires) }
 
-mul-s : tie.Need-overflow-mul-s
+mul-s : tie.Need-overflow_mul-s
 mul-s c = search rules
 
-mul-s-2 : tie.Need-overflow-mul-s-2
+mul-s-2 : tie.Need-overflow_mul-s-2
 mul-s-2 c = record { fits = omega (arith, parts c.args.m c.requires) }
 
-add-s : tie.Need-overflow-add-s
+add-s : tie.Need-overflow_add-s
 add-s c = record { fits = omega (arith, parts c.args.m c.requires) }
 
 mul-t6 : tie.Need-overflow-mul-t6

@@ -11,7 +11,7 @@ below k x h j =
     let hk : k ≤ 65535 = omega arith in let hx : x ≤ 1099511627775 = omega arith in
     omega (arith, mul-le-mul hk hx)
 
-mul-s : tie.Need-overflow-mul-s
+mul-s : tie.Need-overflow_mul-s
 mul-s c = let s = c.before in record { fits = omega (arith, below s.args.k s.args.x.lo s.requires.0 s.requires.2) }
 
 mul-t4 : tie.Need-overflow-mul-t4
