@@ -1,5 +1,5 @@
 -- What callers cite: Lines, the adjustment's theorem in any units; Refused and Legs, the adjustment call; Lists, Holding, Lent, Sized and Bounded, sections in arrays
--- and the sizes of their figures; Classes, the table of classes; Walks, steps of proofs by hand. LegArray serves the adjustment call.
+-- and the sizes of their figures; Classes, the table of classes. LegArray serves the adjustment call.
 pub mod Classes
 pub mod Lines
 pub mod Lists
@@ -9,5 +9,4 @@ pub mod Holding
 pub mod Lent
 pub mod Refused
 pub mod Legs
-pub mod Walks
 pub mod LegArray

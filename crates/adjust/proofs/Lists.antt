@@ -5,7 +5,7 @@ use mathlib.Core.List.{List, [], ◌∷◌}
 use Prim.Native.Nat.{ℕ, zero, suc, ◌+◌, ◌-◌, ◌≤◌, ◌<◌}
 use native.Mathlib.Omega.{arith}
 use lib.ListN.{length}
-use lib.IntN.{ℤ, pos, nat_abs}
+use lib.IntN.{ℤ, pos, nat_abs, ◌+ℤ◌}
 use lib.Signed.{◌≤ℤ◌, le_z}
 use borrow.Author.Tests.{le-leb}
 use Rattle.numbers.specs.Numbers.{within, between}
@@ -18,7 +18,7 @@ use Rattle.adjust.specs.declared.Sections.{Sections}
 use Rattle.adjust.specs.Sizes.{mostQ, mostR, mostD}
 use Rattle.adjust.specs.Sections.{sectionAt, sectionsFrom, sectionsOf, legInRange, legFits, sectionFits}
 use Rattle.adjust.specs.declared.Frame.{Frame}
-use Rattle.adjust.specs.Line.{pointsAfter}
+use Rattle.adjust.specs.Line.{printedHeight, pointsAfter}
 use Rattle.adjust.specs.code.Bounds.{LegBounds}
 
 -- ---- the sections from place k on, which a loop has still to visit
@@ -92,4 +92,5 @@ strict-legs xs e = all-weaken legInRange legFits wider xs e
 
 pub points-length : (f : Frame) (q s h : ℤ) (ss : List Section) → length (pointsAfter f q s h ss) ≡ length ss
 points-length f q s h [] = refl
-points-length f q s h (x ∷ xs) = ap suc (points-length f _ _ _ xs)
+points-length f q s h (x ∷ xs) =
+    ap suc (points-length f (q +ℤ x.height) (s +ℤ x.distance) (printedHeight f (q +ℤ x.height) (s +ℤ x.distance)) xs)

@@ -1,4 +1,6 @@
 // Closing figures over the sections of a line, and the adjustment call.
+#![tactic(auto)]
+
 ghost use Rattle.std.specs.Prelude.{◌≡◌, []};
 ghost use Rattle.numbers.specs.Numbers.{filled};
 ghost use Rattle.adjust.specs.Sections.{sectionsOf, heightInRange};

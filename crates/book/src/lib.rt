@@ -1,4 +1,6 @@
 // The book of one levelling line: its calls.
+#![tactic(auto)]
+
 ghost use Rattle.std.specs.Prelude.{◌≡◌};
 ghost use Rattle.book.specs.Calls.{freshBook};
 

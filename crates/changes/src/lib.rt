@@ -1,4 +1,6 @@
 // What each call makes of a line and the lent lists of its sections: a change, which is no book yet.
+#![tactic(auto)]
+
 use adjust::Section;
 use rules::Line;
 

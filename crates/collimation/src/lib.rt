@@ -1,4 +1,6 @@
 // The collimation test, by the method I1-A-B-I2 (document 02, W-204). x is A1, B1, A2, B2, each the sum of four readings, then D1 and D2; all in mm.
+#![tactic(auto)]
+
 ghost use Rattle.std.specs.Prelude.{◌≡◌, true};
 ghost use Rattle.numbers.specs.Tables.{first_of};
 ghost use Rattle.collimation.specs.Collimation.{collimationOf, sumsInRange, distancesInRange, in_range, scaledAngle, withinAngle, rangeTests, angleTests};

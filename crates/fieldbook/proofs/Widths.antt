@@ -33,7 +33,7 @@ use Rattle.columns.proofs.Lines.{columns-range, fits-room, height-fits}
 use Rattle.rules.specs.declared.Stage.TheVariants.{Closed}
 use Rattle.rules.specs.LineState.{LineState}
 use Rattle.adjust.specs.Terms.{termsOf}
-use Rattle.rules.specs.Rules.{Call, close-line, close-spur, closureWithin}
+use Rattle.rules.specs.Rules.{Call, open-line, open-spur, collimation, station, end-run, drop-run, drop-section, close-line, close-spur, closureWithin}
 use Rattle.ledger.specs.Plain as Plain
 use Rattle.ledger.specs.Claims.{ClosedBy, by_end, by-fin}
 use Rattle.ledger.specs.Plain.{Reading, freshReading, after, figuresOf, plainState}
@@ -173,6 +173,13 @@ closed-small r (close-line n end) (by_end m h tied) e k =
 closed-small r (close-spur n) (by-fin m loose) e k =
     let v : LineState = plainState r in
     subst (λ (t : Bool). nat_abs (cond t (closure quarters r.opening.start.height (pos 0) v.sections) (pos 0)) ≤ mostClosure) (sym loose) (omega arith)
+closed-small r (open-line _ _ _ _) never e k = elim never [ ]
+closed-small r (station _ _ _) never e k = elim never [ ]
+closed-small r (end-run _) never e k = elim never [ ]
+closed-small r drop-run never e k = elim never [ ]
+closed-small r drop-section never e k = elim never [ ]
+closed-small r (open-spur _ _ _ _) never e k = elim never [ ]
+closed-small r (collimation _) never e k = elim never [ ]
 
 pub figures-fit : FiguresFit
 figures-fit calls e =

@@ -1,4 +1,6 @@
 // The text book and its report: from the bytes of a text to the bytes of a report.
+#![tactic(auto)]
+
 ghost use Rattle.std.specs.Prelude.{◌≡◌, length};
 ghost use Rattle.fieldbook.specs.Report.{bufferAfter, reducedNumber, reducedLength, reducedOf, Reduces, printedOf};
 ghost use Rattle.numbers.specs.Numbers.{put_at};

@@ -1,5 +1,7 @@
 // The records of a levelling book: one for each call, named by its tag in the text book (document 01, 'The text book and the report'; document 02, W-202 and W-204).
 
+#![tactic(auto)]
+
 #[derive(Clone, Copy)]
 pub enum Tag {
     // open the line

@@ -1,4 +1,6 @@
 // The functions of roots that C and Rust call: thin names for them.
+#![tactic(auto)]
+
 ghost use Rattle.std.specs.Prelude.{◌≡◌};
 ghost use Rattle.roots.specs.Round.{divisor, roundEven};
 ghost use Rattle.roots.specs.Limit.{isWithin};

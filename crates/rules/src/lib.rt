@@ -1,4 +1,6 @@
 // The record of a levelling line, and what the rules refuse of each call.
+#![tactic(auto)]
+
 use adjust::{Opening, Sections};
 
 pub mod broken;

@@ -56,7 +56,7 @@ module _ {A : Type 0} where
 
   stores-later : (y : A) (ys : List A) (i : ℕ) (xs : List A) → sets (y ∷ ys) (suc i) xs ≡ y ∷ sets ys i xs
   stores-later y ys i [] = refl
-  stores-later y ys i (x ∷ xs) = stores-later y _ (suc i) xs
+  stores-later y ys i (x ∷ xs) = stores-later y (set ys i x) (suc i) xs
 
   -- a list that is stored element by element is written as far as there are places
   pub stores-written : (xs ys : List A) → sets ys 0 xs ≡ written xs ys

@@ -1,4 +1,6 @@
 // Entries of a book in a lent list of numbers, 11 an entry (specs/Calls.antt).
+#![tactic(auto)]
+
 ghost use Rattle.std.specs.Prelude.{◌≡◌, ◌+◌, ◌/◌, length, set};
 ghost use Rattle.numbers.specs.Numbers.{written};
 ghost use Rattle.rules.specs.LineState.{bookWith};

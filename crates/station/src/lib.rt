@@ -1,5 +1,7 @@
 // A station's figures, and the rules that look at one station alone. Readings are back and fore, each upper thread, lower thread,
 // black middle and red middle in mm; kb and kf are the constants of the back and the fore staff.
+#![tactic(auto)]
+
 ghost use Rattle.std.specs.Prelude.{◌≡◌, true, cond, ◌&&◌, ◌+◌, ◌≤◌, leb, pos, nat_abs, ◌+ℤ◌, ◌-ℤ◌};
 ghost use Rattle.numbers.specs.Numbers.{within};
 ghost use Rattle.numbers.specs.Tables.{first_of};

@@ -1,4 +1,3 @@
 -- The lines of a text one after the other leave what the plain reading says.
 pub mod Lines
 mod Reached
-mod ReaderWalks

@@ -1,9 +1,0 @@
--- `put_number` meets its contract: a store past the end leaves the list as it is.
-use mathlib.Core.Path.{sym}
-use lib.Seq.{set_out}
-use borrow.Author.Rules.{rules}
-use Rattle.runner.proofs.put_number.Statement.{statement}
-use Rattle.runner.proofs.put_number.Tie as tie
-
-pub put-number-spec : {M : Type 1} → statement M
-put-number-spec = tie.close (tie.spec (λ c. search rules) (λ c. search rules) (λ c. search rules) (λ c. sym (set_out _ _ _ c.if1.false)))
