@@ -18,8 +18,8 @@ use level_tests::write::filled;
 const PATIENCE: Duration = Duration::from_secs(20);
 
 fn program() -> PathBuf {
-    let program = path("target/bin/reduce");
-    assert!(program.is_file(), "{} is missing: run `rt check reduce` at the root of the repository first", program.display());
+    let program = path("crates/reduce/out/reduce");
+    assert!(program.is_file(), "{} is missing: run `rt run reduce </dev/null` at the root of the repository first", program.display());
     program
 }
 

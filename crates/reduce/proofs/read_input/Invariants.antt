@@ -1,0 +1,9 @@
+-- What is read grows with each turn, within the buffer.
+use Rattle.std.proofs.Common.{length, ◌-◌, ◌≤◌}
+use Rattle.reduce.proofs.read_input.Given as goal
+
+abbrev pub invariant-loop-count : goal.invariant-loop-count
+invariant-loop-count g l = l.count ≤ length l.buffer
+
+abbrev pub decreases-loop-count : goal.decreases-loop-count
+decreases-loop-count g l = length l.initial.buffer - l.count
