@@ -1,12 +1,12 @@
 -- Signed division by a positive number, as the machine has it: what its quotient, its remainder and the test of the remainder's sign are in plain integers.
-use mathlib.Core.Path.{◌≡◌, sym, ap, subst, ◌∙◌}
+use mathlib.Core.Path.{◌≡◌, sym, ap, ◌∙◌}
 use mathlib.Core.Bool.{Bool, true, false}
-use Prim.Native.Nat.{◌≤◌, ◌<◌}
+use Prim.Native.Nat.{◌≤◌}
 use native.Mathlib.Omega.{arith}
 use lib.IntN.{ℤ, pos, nat_abs, ◌+ℤ◌, ◌-ℤ◌, ◌*ℤ◌, *ℤ-zero}
 use lib.Signed.{◌≤ℤ◌, lt_z, quot_z, rem_z}
 use mir.Syntax.{w64}
-use mir.Val.{SFits, to_z, of_z, bool_byte}
+use mir.Val.{SFits, to_z, bool_byte}
 use Rattle.numbers.proofs.Ring.{mul-oneℤ}
 use Rattle.numbers.proofs.Parts.{ints, parts-abs, pos-abs}
 use Rattle.numbers.proofs.Machine.{stored, stored-id, stored-as, fits-as, abs-fits, fits-abs, literal-as, add-as, sub_as, mul-as, quot-as, rem-as, lt-as, bool-as}
@@ -22,12 +22,6 @@ module _ {n d : ℤ} (fn : SFits w64 n) (fd : SFits w64 d) (h : pos 1 ≤ℤ d) 
 
   quot_is : quot_z (stored n) (stored d) ≡ quot_z n (pos (nat_abs d))
   quot_is = quot-as (stored-id fn) d-is
-
-  -- what a division and a remainder need
-  pub divides : (0 < of_z w64 d) × SFits w64 (quot_z (stored n) (stored d))
-  divides =
-      let p : pos 0 ≤ℤ d = omega ints in
-      (subst (λ (z : ℤ). 0 < of_z w64 z) (pos-abs p) divisor-pos, fits-as quot_is (quot_fits n (nat_abs d) fn))
 
   quotient : stored (quot_z (stored n) (stored d)) ≡ quot_z n (pos (nat_abs d))
   quotient = stored-as quot_is (quot_fits n (nat_abs d) fn)

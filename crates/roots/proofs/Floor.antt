@@ -1,7 +1,7 @@
 -- The floor: what is left over it is below the divisor, nothing else has that property, and it is the quotient toward zero less 1 where the remainder is negative.
 use mathlib.Core.Path.{◌≡◌, refl, sym, ap, ◌∙◌}
 use mathlib.Core.Bool.{Bool, true, false}
-use Prim.Native.Nat.{ℕ, zero, suc, ◌+◌, ◌*◌, ◌/◌, ◌%◌, ◌≤◌, ◌<◌}
+use Prim.Native.Nat.{ℕ, zero, suc, ◌*◌, ◌/◌, ◌%◌, ◌≤◌, ◌<◌}
 use native.Mathlib.Decide.{dec_le}
 use native.Mathlib.Nat.{div-add-mod, div-le_self, mod-lt, mul-le-mul_left, mul-one, mul-suc}
 use native.Mathlib.Omega.{arith}

@@ -1,16 +1,15 @@
--- What is answered of readings: document 01's number and the station's figures; and what callers know in each case of the answer.
-use mathlib.Core.Path.{◌≡◌, refl, sym, ap, ◌∙◌}
-use mathlib.Core.List.{List, [], ◌∷◌}
+-- What callers know in each case of what is answered of readings: a station has the figures of the spec, a refusal its number.
+use mathlib.Core.Path.{◌≡◌, refl, sym, ◌∙◌}
+use mathlib.Core.List.{List}
 use Prim.Native.Nat.{ℕ}
 use native.Mathlib.Omega.{arith}
-use lib.Dec.{eqb}
 use lib.IntN.{ℤ}
-use Rattle.numbers.proofs.Tables.{zero-cond, number-cond, cond_of}
+use Rattle.numbers.proofs.Tables.{zero-cond}
 use Rattle.station.specs.declared.Staffs.{Staffs}
 use Rattle.station.specs.declared.Figures.{Figures}
 use Rattle.station.specs.declared.Readings.{Readings}
 use Rattle.station.specs.declared.Readings.TheVariants.{Station, Refused}
-use Rattle.station.specs.Station.{stationOf, figuresOf, readingRefusal, readNumber, readFigures, read_of, Reads}
+use Rattle.station.specs.Station.{stationOf, figuresOf, readingRefusal, readNumber, Reads}
 
 module _ (c : Staffs) (kb kf : ℤ) (readings : List (List ℤ)) where
   abbrev number : ℕ
@@ -18,15 +17,6 @@ module _ (c : Staffs) (kb kf : ℤ) (readings : List (List ℤ)) where
 
   abbrev figures : Figures
   figures = figuresOf c (stationOf kb kf readings)
-
-  pub reads : {r : Readings} → r ≡ read_of c kb kf readings → Reads c kb kf readings r
-  reads e = (
-    e,
-    (
-      ap readNumber e ∙ number-cond readNumber number (Station figures) (Refused number) refl refl,
-      ap readFigures e ∙ cond_of readFigures (eqb number 0) (Station figures) (Refused number),
-    ),
-  )
 
   not-refused : {r : Readings} → Reads c kb kf readings r → readNumber r ≡ 0 → r ≡ Station figures
   not-refused h e = h.0 ∙ zero-cond number (Station figures) (Refused number) (sym h.1.0 ∙ e)

@@ -104,8 +104,12 @@ pub scale-value : (c : Staffs) {n : ℕ} → n ≡ scaleOf c → Value (to_z w64
 scale-value c {n} e = let v = cast n {k = 10} (omega (arith, e, scale-size c)) tt in record { is = v.is ∙ ap pos e; size = scale-size c }
 
 pub constant-value : (c : Staffs) (k : ℤ) {z : ℤ} → SFits w64 k → nat_abs k ≤ 4787
-    → (z ≡ constantOf c (stored k)) × (nat_abs (stored k) ≤ 65535 → nat_abs z ≤ 65535) → Value (stored z) (constantOf c k) 65535
-constant-value c k {z} f h given =
-    let is = given.0 ∙ ap (constantOf c) (stored-id f) in
-    let small = given.1 (omega (arith, h, ap nat_abs (stored-id f))) in
+    → z ≡ constantOf c (stored k) → (nat_abs (stored k) ≤ 65535 → nat_abs z ≤ 65535) → Value (stored z) (constantOf c k) 65535
+constant-value c k {z} f h value bound =
+    let is = value ∙ ap (constantOf c) (stored-id f) in
+    let small = bound (omega (arith, h, ap nat_abs (stored-id f))) in
     record { is = (known z {k = 65535} small tt).is ∙ is; size = omega (arith, small, ap nat_abs is) }
+
+-- so the machine's term has the value's size
+pub sized : {z y : ℤ} {k : ℕ} → Value z y k → nat_abs z ≤ k
+sized v = omega (arith, ap nat_abs v.is, v.size)
