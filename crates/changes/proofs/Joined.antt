@@ -1,23 +1,21 @@
--- What a call changes, by its refusal and its effect: one law for every call.
+-- What a call changes where a run ends and where it is refused, and a call of numbers that fit, as the machine reads it back.
 use mathlib.Core.Path.{◌≡◌, refl, sym, ap, subst, ◌∙◌}
 use mathlib.Core.Bool.{Bool, not, cond}
 use mathlib.Core.List.{List, []}
 use Prim.Native.Nat.{ℕ}
-use lib.Dec.{eqb}
 use lib.ListN.{get_or}
 use lib.IntN.{ℤ}
 use mir.Syntax.{w64}
 use mir.Val.{SFits}
-use Rattle.numbers.proofs.Tables.{zero-cond, nonzero-cond}
+use Rattle.numbers.proofs.Tables.{nonzero-cond}
 use Rattle.numbers.proofs.Machine.{stored, stored-id, stored-both}
-use Rattle.adjust.specs.Terms.{termsOf}
 use Rattle.rules.specs.declared.Line.{Line}
 use Rattle.rules.specs.declared.Waiting.{Waiting}
 use Rattle.rules.specs.declared.Waiting.TheVariants.{Outward}
 use Rattle.rules.specs.LineState.{LineState, is_empty, outwardOrReturn, noRun, oneWay, bothWays}
-use Rattle.rules.specs.Rules.{Call, open-line, station, end-run, close-line, open-spur, close-spur, withRuns, withSection, bookRefusal, taken}
+use Rattle.rules.specs.Rules.{Call, open-line, station, end-run, close-line, open-spur, close-spur, withRuns, withSection, bookRefusal}
 use Rattle.changes.specs.declared.Change.{Change}
-use Rattle.changes.specs.code.Changes.{noSection, lineOnly, lineChange, effect_of, changeBy}
+use Rattle.changes.specs.code.Changes.{noSection, lineOnly, effect_of, changeBy}
 
 -- ---- the end of a run
 
@@ -29,10 +27,6 @@ endedBy l number w t =
     (cond t (record { line = withRuns l (Outward number l.present) noRun; sections = [] }) (withSection (record { line = l; sections = [] }) (oneWay number l.present)))
     (λ outward run. withSection (record { line = l; sections = [] }) (bothWays outward run l.present)) in
     record { number = 0; line = v.line; finishes = not (is_empty v.sections); section = get_or v.sections 0 noSection }
-
-pub as-effect : (l : Line) (number : ℤ) {w : Waiting} {t : Bool} → l.waiting ≡ w → (termsOf l.opening.class).double ≡ t → endedBy l number w t ≡ effect_of l (end-run number)
-unfolding effect_of
-as-effect l number e f = λ i. endedBy l number (sym e i) (sym f i)
 
 -- ---- a call of numbers that fit, as the machine reads it back
 
@@ -60,21 +54,10 @@ close-spur-as n = ap close-spur (stored-id n)
 pub plain : (c : Call) → c ≡ c
 plain c = refl
 
--- ---- what a call c, which is read back as d, changes of a line, by the number that v gives
+-- ---- a call c, which is read back as d, that v refuses by a number
 
-module _ (v : LineState) (l : Line) {c d : Call} (same : d ≡ c) {code : ℕ} (e : code ≡ bookRefusal v d) where
-  pub change-refused : {x : Change} → (code ≡ 0 → ⊥) → x ≡ lineOnly code l → x ≡ changeBy (bookRefusal v c) l c
-  change-refused {x} f m =
-      subst (λ (k : Call). x ≡ changeBy (bookRefusal v k) l k) same
-      (m ∙ sym (nonzero-cond code (effect_of l d) (lineOnly code l) f) ∙ ap (λ (n : ℕ). changeBy n l d) e)
-
-  pub change-taken : {x : Change} → code ≡ 0 → x ≡ effect_of l d → x ≡ changeBy (bookRefusal v c) l c
-  change-taken {x} z m =
-      subst (λ (k : Call). x ≡ changeBy (bookRefusal v k) l k) same
-      (m ∙ sym (zero-cond code (effect_of l d) (lineOnly code l) z) ∙ ap (λ (n : ℕ). changeBy n l d) e)
-
-  -- of one that only leaves another line where it is taken
-  pub change-made : {next : Line} {x : Change} → lineOnly 0 next ≡ effect_of l d → x ≡ lineChange code l next → x ≡ changeBy (bookRefusal v c) l c
-  change-made {next} {x} m k =
-      subst (λ (k : Call). x ≡ changeBy (bookRefusal v k) l k) same
-      (k ∙ (λ i. cond (eqb code 0) (m i) (lineOnly code l)) ∙ ap (λ (n : ℕ). changeBy n l d) e)
+pub change-refused : (v : LineState) (l : Line) {c d : Call} → d ≡ c → {code : ℕ} → code ≡ bookRefusal v d → {x : Change} → (code ≡ 0 → ⊥) → x ≡ lineOnly code l
+    → x ≡ changeBy (bookRefusal v c) l c
+change-refused v l {c} {d} same {code} e {x} f m =
+    subst (λ (k : Call). x ≡ changeBy (bookRefusal v k) l k) same
+    (m ∙ sym (nonzero-cond code (effect_of l d) (lineOnly code l) f) ∙ ap (λ (n : ℕ). changeBy n l d) e)

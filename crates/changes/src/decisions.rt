@@ -121,6 +121,7 @@ fn station_record(line: Line, count: usize, numbers: &[i64; 64], v: [i64; 10]) -
     station_change(line, count, numbers, v[0], v[5], [back, fore])
 }
 
+#[tactic(auto, unfolding(crate::specs::code::Changes::effect_of))]
 pub fn collimation_change(line: Line, count: usize, x: [i64; 6]) -> Change
     ensures { result ≡ changeBy (bookRefusal (beside line count) (collimation x)) line (collimation x) }
 {
@@ -144,6 +145,7 @@ fn end_change(line: Line, count: usize, numbers: &[i64; 64], number: i64) -> Cha
     run_ended(line, number)
 }
 
+#[tactic(auto, unfolding(crate::specs::code::Changes::effect_of))]
 fn drop_run_change(line: Line, count: usize) -> Change
     ensures { result ≡ changeBy (bookRefusal (beside line count) drop-run) line drop-run }
 {
@@ -181,6 +183,7 @@ fn close_change<'a>(
     line_change(code, line, closed(line, end))
 }
 
+#[tactic(auto, unfolding(crate::specs::code::Changes::effect_of))]
 fn close_spur_change<'a>(
     line: Line,
     count: usize,

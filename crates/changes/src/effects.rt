@@ -166,6 +166,7 @@ fn finished(line: Line, section: Section) -> Change
 }
 
 // An outward run ends: it waits where sections are levelled out and back, and is a section where they are levelled one way.
+#[tactic(auto, unfolding(crate::specs::code::Changes::effect_of))]
 fn outward_ended(line: Line, number: i64) -> Change
     requires { SmallRun line.present × (line.waiting ≡ Nothing) }
     ensures { result ≡ effect_of line (end-run number) }
@@ -183,6 +184,7 @@ fn outward_ended(line: Line, number: i64) -> Change
     finished(line, one_way(number, present))
 }
 
+#[tactic(auto, unfolding(crate::specs::code::Changes::effect_of))]
 pub(crate) fn run_ended(line: Line, number: i64) -> Change
     requires { SmallRuns line.waiting line.present }
     ensures { result ≡ effect_of line (end-run number) }
