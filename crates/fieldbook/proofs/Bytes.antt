@@ -19,7 +19,7 @@ use Rattle.rules.specs.declared.Stage.TheVariants.{Fresh, Open, Closed}
 use Rattle.rules.specs.LineState.{isClosed}
 use Rattle.ledger.specs.Plain.{Reading, freshReading, sectionOf, figuresOf}
 use Rattle.textbook.specs.Text.{Refusal, mostText, tooLong, lineRefusals, refusalsFrom, readingAfter}
-use Rattle.fieldbook.specs.Report.{refLine, closedNumbers, pointNumbers, pointLine, openLine, closingLines, resultLines, reportOf, withoutHeading, reportLines, report, printedOf}
+use Rattle.fieldbook.specs.Report.{refLine, closedNumbers, pointNumbers, pointLine, openLine, closingLines, resultLines, reportOf, withoutHeading, reportLines, report}
 use Rattle.fieldbook.specs.Fits.{ReportFits, PrintedFits}
 use Rattle.fieldbook.proofs.Size.{stageLines, waitingLines, least, lines-count}
 

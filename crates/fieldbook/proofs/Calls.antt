@@ -16,7 +16,7 @@ use Rattle.rules.specs.declared.Stage.TheVariants.{Fresh, Open, Closed}
 use Rattle.rules.specs.declared.Book.{Book}
 use Rattle.rules.specs.Rules.{Call}
 use Rattle.rules.specs.LineState.{isClosed}
-use Rattle.ledger.specs.Plain.{Reading, freshReading, after, refusals, sectionOf, figuresOf}
+use Rattle.ledger.specs.Plain.{Reading, freshReading, after, sectionOf, figuresOf}
 use Rattle.ledger.specs.Trace.{SoundTrace}
 use Rattle.ledger.proofs.Every.{every-list, same-figures, none-given}
 use Rattle.ledger.proofs.Kept.{open-not-closed, fresh-not-closed}

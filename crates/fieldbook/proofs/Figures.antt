@@ -1,17 +1,16 @@
 -- How large the figures of a line can be: W, and the height and the correction of a point; and that T is not below 0.
-use mathlib.Core.Path.{◌≡◌, refl, sym, ap, ◌∙◌}
-use mathlib.Core.Bool.{Bool, true, false, not, cond, ◌&&◌, ◌||◌}
+use mathlib.Core.Path.{◌≡◌, ap}
+use mathlib.Core.Bool.{Bool, true, false, not, cond, ◌||◌}
 use mathlib.Core.List.{List, [], ◌∷◌, map}
 use Prim.Native.Nat.{ℕ, ◌+◌, ◌*◌, ◌≤◌, ◌<◌}
 use native.Mathlib.Nat.{mul-le-mul, le_of_mul-le-mul_left}
 use native.Mathlib.Omega.{arith}
 use lib.Dec.{ltb}
-use lib.ListN.{length}
 use lib.IntN.{ℤ, pos, nat_abs, ◌+ℤ◌, ◌-ℤ◌, ◌*ℤ◌}
 use lib.Signed.{◌≤ℤ◌, le_z}
 use Rattle.numbers.specs.Numbers.{sum, within}
 use Rattle.numbers.proofs.Tests.{and_l, and_r}
-use Rattle.numbers.proofs.All.{All, all_head, all_tail}
+use Rattle.numbers.proofs.All.{All, all_head}
 use Rattle.numbers.proofs.Parts.{ints, negPart, parts_add, parts-sub, parts-times, parts-abs}
 use Rattle.numbers.proofs.Sizes.{abs-add, abs-sub, abs-mul, square-abs, within-size}
 use Rattle.roots.proofs.RoundLaws.{round_mono, round_exact}

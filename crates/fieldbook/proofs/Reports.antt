@@ -2,14 +2,14 @@
 use mathlib.Core.Path.{◌≡◌, refl, sym, ap, subst, ◌∙◌}
 use mathlib.Core.Bool.{Bool, true, false, not, cond}
 use mathlib.Core.List.{List, [], ◌∷◌, ◌++◌, map}
-use Prim.Native.Nat.{ℕ, ◌+◌, ◌≤◌, ◌<◌}
+use Prim.Native.Nat.{ℕ, ◌≤◌, ◌<◌}
 use native.Mathlib.Omega.{arith}
 use borrow.Author.Tests.{lt-ltb, le-ltb}
 use lib.Dec.{ltb, eqb}
 use lib.ListN.{length, length-map, take}
 use Rattle.numbers.specs.Numbers.{any_of, put_at, filled}
 use Rattle.numbers.specs.Tables.{Lowest}
-use Rattle.numbers.proofs.Tests.{by-test, is_true}
+use Rattle.numbers.proofs.Tests.{by-test}
 use Rattle.numbers.proofs.Tables.{first-lowest, number-cond, cond_of}
 use Rattle.numbers.proofs.Filled.{filled-length}
 use Rattle.adjust.specs.declared.Point.{Point}
@@ -33,7 +33,6 @@ use Rattle.ledger.proofs.Kept.{Kept, fresh_kept, calls-kept}
 use Rattle.ledger.proofs.Again.{bookOf, fresh_holds, figures-held, figures-again}
 use Rattle.ledger.proofs.Traced.{points-back}
 use Rattle.ledger.proofs.Entries.{reading-calls, refusals-long}
-use Rattle.textbook.specs.declared.text.State.{State}
 use Rattle.fieldbook.specs.declared.Reduced.{Reduced}
 use Rattle.fieldbook.specs.declared.Reduced.TheVariants.{Written, Refused}
 use Rattle.textbook.specs.Text.{mostText, lineEntry, entries, lineRefusals, readingAfter, refusalsFrom, calls_of}
@@ -200,9 +199,6 @@ module _ (t d : List ℕ) where
   not-refused h g = rw (le-ltb mostText (length t) h, le-ltb (length d) 65536 g)
 
 -- ---- the program
-
-pub prints-9 : (t : List ℕ) → mostText < length t → printedFor t ≡ refusalBytes 0 9
-prints-9 t h = ap (λ (b : Bool). cond b (refusalBytes 0 9) (report t)) (lt-ltb mostText (length t) h)
 
 pub prints-report : (t : List ℕ) → length t ≤ mostText → printedFor t ≡ report t
 prints-report t h = ap (λ (b : Bool). cond b (refusalBytes 0 9) (report t)) (le-ltb mostText (length t) h)

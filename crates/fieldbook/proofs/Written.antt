@@ -24,9 +24,8 @@ use Rattle.columns.proofs.Put.{placed-room}
 use Rattle.columns.proofs.Lines.{length-line, length-title}
 use Rattle.columns.proofs.Texts.{joined-append}
 use Rattle.rules.specs.declared.Book.{Book}
-use Rattle.rules.specs.LineState.{isClosed}
 use Rattle.book.specs.declared.CloseAnswer.{CloseAnswer}
-use Rattle.book.specs.declared.CloseAnswer.TheVariants.{Closed, NotClosed}
+use Rattle.book.specs.declared.CloseAnswer.TheVariants.{NotClosed}
 use Rattle.book.specs.Calls.{closingIn, figuresOf}
 use Rattle.textbook.specs.declared.text.State.{State}
 use Rattle.textbook.specs.Text.{Refusal, refusalsFrom}
@@ -70,9 +69,6 @@ pub record Left (whole : List ℕ) (d₀ : List ℕ) (from : ℕ) (rest d : List
   pub ends : at + length rest ≡ from + length whole
   pub same : length d ≡ length d₀
   pub put : put_at d at rest ≡ put_at d₀ from whole
-
-pub left-all : (whole d : List ℕ) (at : ℕ) → Left whole d at whole d at
-left-all whole d at = record { ends = refl; same = refl; put = refl }
 
 module _ {whole d₀ : List ℕ} {from : ℕ} {rest d : List ℕ} {at : ℕ} (l : Left whole d₀ from rest d at) where
   -- after one more piece
@@ -174,15 +170,9 @@ module _ (s : Summary) (ps : List Point) (f : ClosingFits s ps) where
       ap (λ (k : ℕ). put_at (put_at d at (closedLine s)) (at + k) (joined (map pointLine given))) (sym closed-long)
       ∙ put-after d at (closedLine s) (joined (map pointLine given)) h
 
-  pub closed-put-long : (d : List ℕ) (at : ℕ) → at + 84 ≤ length d → length (put_at d at (closedLine s)) ≡ length d
-  closed-put-long d at h = length-putAt d at (closedLine s) (omega (arith, closed-long))
-
 -- ---- where the line stands
 
 module _ (b : Book) where
-  pub book-closed : (s : Summary) → (figuresOf b).answer ≡ Closed s → bookLines b ≡ closingLines (closingIn s (figuresOf b).points)
-  book-closed s e = ap (answerLines b (figuresOf b).points) e
-
   pub book-open : (n : ℕ) → (figuresOf b).answer ≡ NotClosed n → joined (bookLines b) ≡ openLine b.sections.count
   unfolding joined
   book-open n e = ap (λ (a : CloseAnswer). joined (answerLines b (figuresOf b).points a)) e ∙ append-nil (openLine b.sections.count)

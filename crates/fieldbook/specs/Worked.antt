@@ -1,11 +1,9 @@
 -- Case A of document 01, with the collimation test of document 02, W-204, worked: the bytes of its text give the bytes of its report, both written out as they stand in a file.
-use Rattle.std.specs.Prelude.{◌≡◌, refl, List, ℕ, ℤ, pos, negsuc}
+use Rattle.std.specs.Prelude.{◌≡◌, refl, List, ℕ, pos}
 use mathlib.Core.List as Lists
 use Prim.Native.Char.{code}
 use Prim.Native.String.{String, [], ◌∷◌, ◌++◌}
 use Rattle.numbers.specs.Numbers.{put_at}
-use Rattle.records.specs.declared.Tag.{Tag}
-use Rattle.records.specs.declared.Tag.TheVariants.{Lin, Sta, Run, End}
 use Rattle.roots.specs.Round.{roundEven}
 use Rattle.roots.specs.Limit.{isWithin}
 use Rattle.collimation.specs.Collimation.{withinAngle}

@@ -35,11 +35,9 @@ fn put_refusals(buf: &mut [u8], at: usize, numbers: [u8; 778]) -> usize
     ensures buf_after { buf.new ≡ put_at buf.old at (joined (refusalLines 0 numbers)) }
 {
     let mut next = at;
-    let mut k = 0;
-    while k < 778 {
+    for k in 0..778 {
         let number = numbers[k];
         next = put_refusal(buf, next, k, number);
-        k += 1;
     }
     next
 }
@@ -82,11 +80,9 @@ fn put_points(buf: &mut [u8], at: usize, points: [Point; 65], n: usize)
     requires { (n ≤ 65) × ((at + 84 * n ≤ length buf.old) × pointsFit (take n points)) }
     ensures { buf.new ≡ put_at buf.old at (joined (map pointLine (take n points))) }
 {
-    let mut k = 0;
-    while k < n {
+    for k in 0..n {
         let point = points[k];
         put_point(buf, at + 84 * k, point);
-        k += 1;
     }
 }
 

@@ -1,12 +1,12 @@
--- The lines of a text where it is lent, its first line, whether it is too long, and the refusals among the numbers of its lines.
+-- The first line of a text, whether the text is too long, and the refusals among the numbers of its lines.
 use mathlib.Core.Path.{◌≡◌, refl, sym, ap, ◌∙◌}
-use mathlib.Core.Bool.{Bool, cond}
+use mathlib.Core.Bool.{Bool, true, false, cond}
 use mathlib.Core.List.{List, [], ◌∷◌, ◌++◌}
-use Prim.Native.Nat.{ℕ, zero, suc, ◌-◌, ◌*◌, ◌≤◌, ◌<◌}
+use Prim.Native.Nat.{ℕ, zero, suc, ◌≤◌, ◌<◌}
 use native.Mathlib.Omega.{arith}
-use borrow.Author.Tests.{lt-ltb, le-ltb, ltb-true, ltb-false}
+use borrow.Author.Tests.{le-ltb, ltb-true, ltb-false}
 use lib.Dec.{eqb}
-use lib.ListN.{length, drop, replicate, drop_of_length-le}
+use lib.ListN.{length, replicate}
 use Rattle.numbers.specs.Numbers.{filled}
 use Rattle.numbers.proofs.Tests.{by-test, is_true, is_false}
 use Rattle.numbers.proofs.Arrays.{written_none}
@@ -18,24 +18,10 @@ use Rattle.textbook.specs.declared.text.State.{State}
 use Rattle.textbook.specs.Text.{Refusal, mostText, tooLong, refusalsFrom}
 use Rattle.textbook.specs.code.State.{textFrom, line_at, afterHeading, unread, textState, refusedText, textRead}
 
--- ---- from a line on
-
-module _ (t : List ℕ) where
-  pub text-is : (k : ℕ) → 0 < k → textFrom t k ≡ drop (84 * (k - 1)) t
-  text-is zero h = absurd (omega arith)
-  text-is (suc k) h = ap (λ (n : ℕ). drop (84 * n) t) (e k)
-    where
-      e : (k : ℕ) → k ≡ suc k - 1
-      e k = omega arith
-
-  -- past the last line
-  pub no_text : (k : ℕ) → 0 < k → length t < 84 * (k - 1) → textFrom t k ≡ []
-  no_text k h p = text-is k h ∙ drop_of_length-le t {i = 84 * (k - 1)} (omega arith)
-
 -- ---- the first line
 
 -- what is read, by whether the first line is the heading
-abbrev pub readOr : Bool → List ℕ → State
+abbrev readOr : Bool → List ℕ → State
 readOr b t = cond b (afterHeading (lines (textFrom t 2))) unread
 
 first-line : (t : List ℕ) → readOr (same (line_at t 1) heading) t ≡ textState (lines t)
@@ -43,15 +29,17 @@ unfolding same heading lineWith
 first-line [] = ap textState (sym (lines_end [] 0 (omega arith)))
 first-line (b ∷ t) = ap textState (sym (lines_next (b ∷ t) 0 (omega arith)))
 
-pub by-heading : (t : List ℕ) {b : Bool} → b ≡ same (line_at t 1) heading → readOr b t ≡ textState (lines t)
-by-heading t e = ap (λ (b : Bool). readOr b t) e ∙ first-line t
+-- with the heading, and without it
+module _ (t : List ℕ) where
+  pub with_heading : same (line_at t 1) heading ≡ true → afterHeading (lines (textFrom t 2)) ≡ textState (lines t)
+  with_heading e = ap (λ (b : Bool). readOr b t) (sym e) ∙ first-line t
+
+  pub without_heading : same (line_at t 1) heading ≡ false → unread ≡ textState (lines t)
+  without_heading e = ap (λ (b : Bool). readOr b t) (sym e) ∙ first-line t
 
 -- ---- too long a text, and one that is not
 
 module _ (t : List ℕ) where
-  pub read-long : mostText < length t → textRead t ≡ refusedText
-  read-long h = rw (lt-ltb mostText (length t) h)
-
   pub read_short : length t ≤ mostText → textRead t ≡ record { number = 0; state = textState (lines t) }
   read_short h = rw (le-ltb mostText (length t) h)
 

@@ -120,9 +120,6 @@ module _ (t : List ℕ) where
   pub reached-places : {b : Book} {places : List ℕ} {k : ℕ} → Reached b places k → Places b.sections
   reached-places x = subst (λ (b : Book). Places b.sections) (sym x.holds) (has-places x.reading x.kept)
 
-  pub reached-long : {b : Book} {places : List ℕ} {k : ℕ} → Reached b places k → length places ≡ 778
-  reached-long x = ap length x.filled_in ∙ filled-length 0 778 (0 ∷ 0 ∷ x.numbers)
-
   pub reached-last : {b : Book} {places : List ℕ} {k : ℕ} → Reached b places k → lineCount (length t) < k → record { book = b; refusals = places } ≡ afterHeading (left 0)
   reached-last x h =
       let none : left (length x.numbers) ≡ [] = lines_end t (84 * suc (length x.numbers)) (omega (arith, x.line)) in

@@ -1,5 +1,4 @@
-// A text book read by a reader that holds the lent text. The functions that hold a reader are proved by hand: they copy and call. What is read from a line on
-// is in `text`.
+// A text book read by a reader that holds the lent text. What is read from a line on is in `text`.
 ghost use Rattle.std.specs.Prelude.{◌≡◌};
 ghost use Rattle.columns.specs.Texts.{lines};
 ghost use Rattle.textbook.specs.code.State.{textFrom, textState, textRead};

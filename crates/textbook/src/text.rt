@@ -160,6 +160,7 @@ fn unread_state() -> State
 }
 
 // What is left of a text from line `first` on, read as a text of its own: that line is its heading.
+#[tactic(auto, using(crate::proofs::Lines::with_heading, crate::proofs::Lines::without_heading))]
 pub(crate) fn read_from(text: &[u8], first: usize) -> State
     ensures { result ≡ textState (lines (textFrom text.now first)) }
 {
