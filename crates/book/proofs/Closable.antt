@@ -1,18 +1,17 @@
 -- What closing, and asking for the figures of a closed line, answer: document 01's number and values. Where they are not refused, the figures fit.
-use mathlib.Core.Path.{◌≡◌, refl, sym, ap, ◌∙◌}
+use mathlib.Core.Path.{◌≡◌, refl, ap, ◌∙◌}
 use mathlib.Core.Bool.{true, false, not, cond, ◌&&◌, ◌||◌}
 use mathlib.Core.List.{List, [], ◌∷◌}
 use Prim.Native.Nat.{ℕ}
 use lib.Dec.{eqb}
 use lib.ListN.{length}
 use lib.IntN.{ℤ, pos}
-use Rattle.numbers.specs.Numbers.{filled}
 use Rattle.numbers.proofs.Tests.{or_l, or_r, not-false}
-use Rattle.numbers.proofs.Tables.{failed, number-cond, nonzero-cond, cond_of}
+use Rattle.numbers.proofs.Tables.{failed, number-cond, cond_of}
 use Rattle.adjust.specs.declared.Section.{Section}
 use Rattle.adjust.specs.Sections.{sectionsOf, misfit, heightInRange}
 use Rattle.adjust.specs.Line.{Closing}
-use Rattle.adjust.specs.Frames.{noPoint, figuresFit}
+use Rattle.adjust.specs.Frames.{figuresFit}
 use Rattle.rules.specs.declared.Book.{Book}
 use Rattle.rules.specs.LineState.{state_of, isClosed, is_empty, isReturn, lineBroken}
 use Rattle.rules.specs.Rules.{Call, close-line, close-spur, brokenIn, figuresTests, bookRefusal}
@@ -30,17 +29,6 @@ module _ (n : ℕ) (gave : Closing) where
 
   pub values-told : closeValues (closeFigures n gave).answer ≡ cond (eqb n 0) (gave.summary ∷ []) []
   values-told = cond_of closeValues (eqb n 0) (Closed gave.summary) (NotClosed n)
-
-  -- the figures where n is 0, and none where it is not
-  pub given : n ≡ 0 → closeFigures 0 gave ≡ closeFigures n gave
-  given e = λ i. closeFigures (sym e i) gave
-
-  pub none-given : (n ≡ 0 → ⊥) → {m : ℕ} → m ≡ n → record { answer = NotClosed m; points = filled noPoint 65 [] } ≡ closeFigures n gave
-  none-given f e =
-      λ i. record {
-        answer = (ap NotClosed e ∙ sym (nonzero-cond n (Closed gave.summary) (NotClosed n) f)) i;
-        points = filled noPoint 65 (sym (nonzero-cond n gave.points [] f) i);
-      }
 
 pub closes : (b : Book) (c : Call) {r : CloseOutcome} → r ≡ closeOutcome b c → Closes b c r
 unfolding closeOutcome

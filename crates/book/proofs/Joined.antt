@@ -9,7 +9,6 @@ use lib.ListN.{length, set}
 use lib.IntN.{ℤ}
 use borrow.Author.Tests.{lt-ltb}
 use Rattle.numbers.proofs.Tests.{by-test, holds, fails, and_r, not-false}
-use Rattle.numbers.proofs.Tables.{nonzero-cond}
 use Rattle.records.specs.Answers.{number_of, answer_of}
 use Rattle.adjust.specs.declared.Section.{Section}
 use Rattle.adjust.specs.declared.Sections.{Sections}
@@ -127,10 +126,6 @@ module _ (b : Book) (w : Places b.sections) where
       let n = bookRefusal (state_of b) c in
       let number = by-test (eqb n 0) (λ t. (cond t (effect_of b.line c) (lineOnly n b.line)).number ≡ n) (λ t. taken-number b.line c ∙ sym (eqb→eq n 0 t)) (λ t. refl) in
       (λ i. record { number = (e i).number; book = changed b (e i) }) ∙ (λ i. record { number = number i; book = made c i })
-
-pub left-as-it-was : (b : Book) (c : Call) → (bookRefusal (state_of b) c ≡ 0 → ⊥) → b ≡ bookAfter b c
-unfolding bookAfter
-left-as-it-was b c f = sym (nonzero-cond (bookRefusal (state_of b) c) (bookWith b (taken (state_of b) c)) b f)
 
 -- ---- what an outcome answers
 

@@ -1,6 +1,6 @@
 -- The calls of a book: what each answers and leaves. Of every call one equation: the number that `bookRefusal` gives; the book as the rules' effect leaves it where
 -- that is 0, and the very book where it is not.
-use Rattle.std.specs.Prelude.{◌≡◌, false, cond, List, [], ◌∷◌, map, ℕ, ◌+◌, take, eqb, ℤ, pos}
+use Rattle.std.specs.Prelude.{◌≡◌, false, cond, List, [], ◌∷◌, map, ℕ, ◌+◌, take, eqb, pos}
 use Rattle.numbers.specs.Numbers.{filled}
 use Rattle.numbers.specs.Tables.{first_of}
 use Rattle.records.specs.Answers.{number_of, answer_of}

@@ -13,13 +13,11 @@ fn put(figures: &[i64], list: &mut [i64], at: usize)
     requires { at ≤ 270 }
     ensures { list.new ≡ sets list.old at figures.now }
 {
-    let mut k = 0;
-    while k < figures.len() {
+    for k in 0..figures.len() {
         let figure = figures[k];
         if at + k < list.len() {
             list[at + k] = figure;
         }
-        k += 1;
     }
 }
 
@@ -63,12 +61,10 @@ fn head_of(s: Summary, run: Run, sections: usize) -> [i64; 10]
 fn put_points(points: [Point; 65], list: &mut [i64])
     ensures { list.new ≡ sets list.old 10 (pointFigures points) }
 {
-    let mut k = 0;
-    while k < 65 {
+    for k in 0..65 {
         let point = points[k];
         let figures = [point.number, point.distance, point.correction, point.height];
         put(&figures, list, 4 * k + 10);
-        k += 1;
     }
 }
 

@@ -40,16 +40,15 @@ fn copy_ten(list: &[i64]) -> [i64; 10]
     ensures { result ≡ list.now }
 {
     let mut numbers = [0; 10];
-    let mut k = 0;
-    while k < 10 {
+    for k in 0..10 {
         let number = list[k];
         numbers[k] = number;
-        k += 1;
     }
     numbers
 }
 
 // The first entry of a list, taken of the book.
+#[tactic(auto, unfolding(crate::specs::Calls::firstEntry))]
 fn take_first(b: Book, list: &[i64]) -> Step
     ensures { result ≡ entryStep b (firstEntry list.now) }
 {
@@ -89,13 +88,11 @@ pub fn run_calls(calls: &[i64], numbers: &mut [u8]) -> Book
 {
     let n = entry_count(calls);
     let mut b = book::fresh();
-    let mut k = 0;
-    while k < n {
+    for k in 0..n {
         let at = k * 11;
         let s = take_first(b, &calls[at..]);
         b = s.book;
         put_number(numbers, k, s.number);
-        k += 1;
     }
     b
 }
