@@ -8,7 +8,8 @@ use native.Mathlib.Numerals.{add-one}
 use borrow.Author.Tests.{eqb-true, eqb-false}
 use lib.Dec.{eqb}
 use lib.IntN.{ℤ, pos, negsuc}
-use lib.ListN.{length, drop, get_or}
+use lib.ListN.{length, drop, get_or, drop_of_length-le}
+use Rattle.numbers.proofs.Arrays.{drop-next}
 use Rattle.numbers.proofs.Tests.{by-test, is_true, is_false, not-both}
 use Rattle.columns.specs.declared.parser.Field.{Field}
 use Rattle.columns.specs.declared.parser.Field.TheVariants.{Number, Bad}
@@ -193,3 +194,23 @@ natural-more (b ∷ r) h k =
     let t = both (isDigit b) (allDigits r) h in
     let d = digit-range b t.0 in
     sym (digits_value (10 * 0 + (b - 48)) r (omega (arith, k)) t.1 ∙ ap (λ (x : List ℕ). x ++ r) (digit-is b t.0)))
+
+-- ---- a field from its first byte on that is not a blank
+
+module _ (bs : List ℕ) where
+  pub field-none : length bs ≤ leadingBlanks bs → field_of bs ≡ Bad
+  field-none h = (after-blanks bs).same-field ∙ ap field_of (drop_of_length-le bs h) ∙ field-empty
+
+  first : leadingBlanks bs < length bs → field_of bs ≡ field_of (get_or bs (leadingBlanks bs) 0 ∷ drop (leadingBlanks bs + 1) bs)
+  first h = (after-blanks bs).same-field ∙ ap field_of (drop-next bs (leadingBlanks bs) 0 h)
+
+  pub field-first-minus : leadingBlanks bs < length bs → get_or bs (leadingBlanks bs) 0 ≡ 45 → field_of bs ≡ negated (naturalOf (drop (leadingBlanks bs + 1) bs))
+  field-first-minus h e =
+      let rest = drop (leadingBlanks bs + 1) bs in
+      first h ∙ ap (λ (b : ℕ). field_of (b ∷ rest)) e ∙ field-minus rest
+
+  pub field-first-other : leadingBlanks bs < length bs → (get_or bs (leadingBlanks bs) 0 ≡ 45 → ⊥) → field_of bs ≡ naturalOf (drop (leadingBlanks bs) bs)
+  field-first-other h k =
+      let b = get_or bs (leadingBlanks bs) 0 in
+      let rest = drop (leadingBlanks bs + 1) bs in
+      first h ∙ field-other b rest ((after-blanks bs).other h) k ∙ sym (ap naturalOf (drop-next bs (leadingBlanks bs) 0 h))

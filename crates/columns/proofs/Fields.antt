@@ -9,6 +9,9 @@ use lib.IntN.{ℤ, pos, negsuc, neg_ℤ, nat_abs}
 use lib.Signed.{◌≤ℤ◌, ◌<ℤ◌}
 use lib.ListN.{length, length-append, length-replicate}
 use Rattle.numbers.proofs.Parts.{ints, posPart, negPart}
+use lib.ListN.{set}
+use Rattle.numbers.specs.Numbers.{put_at}
+use Rattle.numbers.proofs.Arrays.{put-cons, put-before}
 use Rattle.numbers.proofs.Tests.{by-test, is_true}
 use Rattle.columns.specs.declared.parser.Field.{Field}
 use Rattle.columns.specs.declared.parser.Field.TheVariants.{Number, Bad}
@@ -140,3 +143,31 @@ field_is bs Bad there back = go (field_of bs) refl
     go : (g : Field) → field_of bs ≡ g → field_of bs ≡ Bad
     go (Number z) e = e ∙ sym (back z (written-field bs z e))
     go Bad e = e
+
+-- ---- written
+
+-- one of the blanks that are left, and then the others
+pub put-blank : (d : List ℕ) (at n i j : ℕ) → i < n → at + i < length d → j ≡ at + (i + 1) → put_at (set d (at + i) 32) j (blanks (n - (i + 1))) ≡ put_at d (at + i) (blanks (n - i))
+put-blank d at n i j h g e =
+    let rest = blanks (n - (i + 1)) in
+    let k : j ≡ at + i + 1 = omega arith in
+    ap (λ (m : ℕ). put_at (set d (at + i) 32) m rest) k ∙ put-cons d (at + i) 32 rest g ∙ ap (put_at d (at + i)) (sym (blanks-next n i h))
+
+pub fits-length : (k : ℕ) (z : ℤ) → fitsIn k z ≡ true → length (decimal z) ≤ k
+unfolding fitsIn
+fits-length k z h = leb-true (length (decimal z)) k h
+
+-- a number up to its last column, and then the blanks before it
+pub put-padded :
+    (d : List ℕ) (at k r : ℕ) (z : ℤ)
+    → length (decimal z) ≤ k
+    → r + length (decimal z) ≡ at + k
+    → at + k ≤ length d
+    → put_at (put_at d r (decimal z)) at (blanks (r - at)) ≡ put_at d at (pad k z)
+unfolding pad
+put-padded d at k r z h e f =
+    let n : ℕ = k - length (decimal z) in
+    let b : length (blanks n) ≡ n = length-blanks n in
+    let i : r ≡ at + length (blanks n) = omega arith in
+    let j : r - at ≡ n = omega arith in
+    (λ x. put_at (put_at d (i x) (decimal z)) at (blanks (j x))) ∙ put-before d at (blanks n) (decimal z) (omega arith)

@@ -8,6 +8,7 @@ pub mod FieldParts
 pub mod Runs
 pub mod Lines
 pub mod Records
+pub mod Sets
 pub mod RoundTrip
 pub mod Texts
 pub mod Examples

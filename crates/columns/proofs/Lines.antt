@@ -90,6 +90,23 @@ module _ (wide : Bool) (zs : List ℤ) (i : ℕ) (h : i < length zs) where
   pub columns-turn : columnsOf wide (length zs - i) ≡ width_at + columnsOf wide (length zs - (i + 1))
   columns-turn = ap (columnsOf wide) (left-next (length zs) i h) ∙ columns-next wide (length zs - (i + 1))
 
+  -- number i fits, and so do those after it
+  pub fit-first : all_fit wide (drop i zs) ≡ true → fitsIn width_at (get_or zs i (pos 0)) ≡ true
+  fit-first e = (both (fitsIn width_at (get_or zs i (pos 0))) (all_fit wide (drop (i + 1) zs)) (sym fit-turn ∙ e)).0
+
+  pub fit-rest : all_fit wide (drop i zs) ≡ true → all_fit wide (drop (i + 1) zs) ≡ true
+  fit-rest e = (both (fitsIn width_at (get_or zs i (pos 0))) (all_fit wide (drop (i + 1) zs)) (sym fit-turn ∙ e)).1
+
+  -- field i is written, and then those after it
+  pub put-field : (d : List ℕ) (at : ℕ) → all_fit wide (drop i zs) ≡ true → at ≤ length d
+      → put_at (put_at d at (pad width_at (get_or zs i (pos 0)))) (at + width_at) (fields wide (drop (i + 1) zs)) ≡ put_at d at (fields wide (drop i zs))
+  put-field d at e h =
+      let p = pad width_at (get_or zs i (pos 0)) in
+      let rest = fields wide (drop (i + 1) zs) in
+      ap (λ (m : ℕ). put_at (put_at d at p) (at + m) rest) (sym (length-pad width_at (get_or zs i (pos 0)) (fit-first e)))
+      ∙ put-after d at p rest h
+      ∙ ap (put_at d at) (sym fields-turn)
+
 -- ---- the end of a line
 
 pub length-end : (from : ℕ) → from ≤ 83 → length (lineEnd from) ≡ 84 - from
@@ -142,6 +159,13 @@ fits_line tag zs wide h =
       each = t.1;
       used = length-append tag (fields wide zs) ∙ ap (λ (k : ℕ). length tag + k) (length_fields wide zs t.1);
     }
+
+-- the same, a fact at a time
+pub line-room : (tag : List ℕ) (zs : List ℤ) (wide : Bool) → lineFits (length tag) zs wide ≡ true → length tag + columnsOf wide (length zs) ≤ 83
+line-room tag zs wide h = (fits_line tag zs wide h).room
+
+pub line-each : (tag : List ℕ) (zs : List ℤ) (wide : Bool) → lineFits (length tag) zs wide ≡ true → all_fit wide zs ≡ true
+line-each tag zs wide h = (fits_line tag zs wide h).each
 
 pub fits_not : (letters : ℕ) (zs : List ℤ) (wide : Bool) → 83 < letters + columnsOf wide (length zs) → lineFits letters zs wide ≡ false
 unfolding lineFits

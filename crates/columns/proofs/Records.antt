@@ -1,14 +1,16 @@
 -- Records read: a turn of the loop over a line's fields, and which lines are refused.
-use mathlib.Core.Path.{◌≡◌, refl, ap, ◌∙◌}
+use mathlib.Core.Path.{◌≡◌, refl, sym, ap, ◌∙◌}
 use mathlib.Core.Bool.{Bool, true, false, not, cond}
 use mathlib.Core.List.{List, [], ◌∷◌}
 use Prim.Native.Nat.{ℕ, ◌+◌, ◌-◌, ◌*◌, ◌≤◌, ◌<◌}
 use native.Mathlib.Omega.{arith}
 use lib.IntN.{ℤ}
 use lib.Dec.{lit≤, eqb}
-use lib.ListN.{length, take, drop, length-drop}
+use lib.ListN.{length, take, drop, set, length-drop}
 use lib.Seq.{drop-drop}
 use Rattle.numbers.specs.Tables.{first_of, Lowest}
+use Rattle.numbers.specs.Numbers.{put_at}
+use Rattle.numbers.proofs.Arrays.{put-cons}
 use Rattle.numbers.proofs.Tables.{first-lowest}
 use Rattle.numbers.proofs.Tests.{by-test}
 use Rattle.columns.specs.declared.parser.Field.{Field}
@@ -52,6 +54,11 @@ module _ (l : List ℕ) (n i : ℕ) (h : i < n) where
   values-next z e =
       ap (λ (k : ℕ). numbersIn k (drop (3 + 8 * i) l)) (left-next n i h)
       ∙ (λ j. fieldNumber (e j) ∷ numbersIn (n - (i + 1)) (after j))
+
+  -- field i takes its place, and then those after it
+  pub values-put : (vs : List ℤ) (z : ℤ) → i < length vs → field_at ≡ Number z
+      → put_at (set vs i z) (i + 1) (numbersIn (n - (i + 1)) (drop (3 + 8 * (i + 1)) l)) ≡ put_at vs i (numbersIn (n - i) (drop (3 + 8 * i) l))
+  values-put vs z g e = put-cons vs i z (numbersIn (n - (i + 1)) (drop (3 + 8 * (i + 1)) l)) g ∙ ap (put_at vs i) (sym (values-next z e))
 
 pub numbers-end : (n i : ℕ) (t : List ℕ) → n ≤ i → allNumbers (n - i) t ≡ true
 unfolding allNumbers

@@ -1,8 +1,10 @@
--- The loops of the parser: a turn of the one that counts blanks and of the one that reads digits; and what a minus makes of a number.
+-- The loops of the parser: a turn of the one that counts blanks and of the one that reads digits; what a minus makes of a number; and powers of ten.
 use mathlib.Core.Path.{◌≡◌, refl, ap, ◌∙◌}
 use mathlib.Core.Bool.{Bool, false, cond}
 use mathlib.Core.List.{List}
-use Prim.Native.Nat.{ℕ, zero, suc, ◌+◌, ◌-◌, ◌*◌, ◌≤◌, ◌<◌}
+use Prim.Native.Nat.{ℕ, zero, suc, ◌+◌, ◌-◌, ◌*◌, ◌^◌, ◌≤◌, ◌<◌}
+use native.Mathlib.Nat.{pow-suc, pow-le-pow_right}
+use native.Mathlib.Numerals.{add-one}
 use native.Mathlib.Omega.{arith}
 use borrow.Author.Tests.{le-leb, lt-leb, eq-eqb, ne_eqb}
 use lib.Dec.{eqb}
@@ -91,3 +93,14 @@ pub minus-fits : (z : ℤ) → SFits w64 z → pos 0 <ℤ z → SFits w64 (pos 0
 minus-fits (pos zero) f h = absurd (omega ints)
 minus-fits (pos (suc n)) f h = fits-as (+ℤ_idl (negsuc n)) (record { sfits = omega (arith, f.sfits) })
 minus-fits (negsuc n) f h = absurd (omega ints)
+
+-- ---- powers of ten: eighteen digits fit an i64
+
+pub power-next : (i : ℕ) → 10 ^ (i + 1) ≡ 10 ^ i * 10
+power-next i = rw add-one (pow-suc 10 i)
+
+pub power-17 : (i : ℕ) → i ≤ 17 → 10 ^ i ≤ 100000000000000000
+power-17 i h = pow-le-pow_right {n = 10} (omega arith) h
+
+pub power-18 : (i : ℕ) → i ≤ 18 → 10 ^ i ≤ 1000000000000000000
+power-18 i h = pow-le-pow_right {n = 10} (omega arith) h

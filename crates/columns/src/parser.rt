@@ -23,13 +23,13 @@ pub struct TextLine {
 }
 
 // The number of a run of digits. Eighteen digits fit an i64.
+#[tactic(auto, using(crate::proofs::Sets::digit_run))]
 fn digit_run(bs: &[u8]) -> Field
     requires { length bs.now ≤ 18 }
     ensures { result ≡ digitRun bs.now }
 {
     let mut n: u64 = 0;
-    let mut i = 0;
-    while i < bs.len() {
+    for i in 0..bs.len() {
         let b = bs[i];
         if b < b'0' {
             return Field::Bad;
@@ -38,12 +38,12 @@ fn digit_run(bs: &[u8]) -> Field
             return Field::Bad;
         }
         n = 10 * n + (b - b'0') as u64;
-        i += 1;
     }
     Field::Number(n as i64)
 }
 
 // A number with neither blanks nor a minus.
+#[tactic(auto, using(crate::proofs::Sets::natural))]
 fn natural(bs: &[u8]) -> Field
     requires { length bs.now ≤ 18 }
     ensures { result ≡ naturalOf bs.now }
@@ -61,6 +61,7 @@ fn natural(bs: &[u8]) -> Field
 }
 
 // The field with a minus before it.
+#[tactic(auto, using(crate::proofs::Sets::negate), unfolding(crate::specs::code::Parser::negated))]
 fn negate(f: Field) -> Field
     ensures { result ≡ negated f }
 {
@@ -71,20 +72,20 @@ fn negate(f: Field) -> Field
 }
 
 // How many blanks a field begins with.
+#[tactic(auto, using(crate::proofs::Sets::count_blanks))]
 fn count_blanks(bs: &[u8]) -> usize
     ensures { result ≡ leadingBlanks bs.now }
 {
-    let mut i = 0;
-    while i < bs.len() {
+    for i in 0..bs.len() {
         if bs[i] != b' ' {
             return i;
         }
-        i += 1;
     }
-    i
+    bs.len()
 }
 
 // The number that stands in a field.
+#[tactic(auto, using(crate::proofs::Sets::read_field))]
 fn read_field(bs: &[u8]) -> Field
     requires { length bs.now ≤ 18 }
     ensures { result ≡ field_of bs.now }
@@ -111,13 +112,13 @@ fn refused(number: u8) -> TextLine
 }
 
 // The numbers of the first n fields of a line, under the tag.
+#[tactic(auto, using(crate::proofs::Sets::read_numbers))]
 fn read_numbers(line: &[u8], tag: Tag, n: usize) -> TextLine
     requires { (n ≤ 10) × (3 + 8 * n ≤ length line.now) }
     ensures { result ≡ numbersLine tag n (drop 3 line.now) }
 {
     let mut values = [0i64; 10];
-    let mut i = 0;
-    while i < n {
+    for i in 0..n {
         let at = 3 + 8 * i;
         let end = at + 8;
         let field = read_field(&line[at..end]);
@@ -125,7 +126,6 @@ fn read_numbers(line: &[u8], tag: Tag, n: usize) -> TextLine
             return refused(2);
         };
         values[i] = v;
-        i += 1;
     }
     TextLine {
         kind: Kind::Record(tag),
@@ -162,6 +162,7 @@ fn tag_or(w: &[u8], letters: &[u8; 3], tag: Tag, otherwise: Kind) -> Kind
 }
 
 // The tag with these letters: the last of `tags` is tried first, so that the first that fits is left.
+#[tactic(auto, unfolding(crate::specs::Records::tagAmong))]
 fn find_tag(w: &[u8]) -> Kind
     ensures { result ≡ tagAmong tags w.now }
 {
@@ -179,6 +180,7 @@ fn find_tag(w: &[u8]) -> Kind
 }
 
 // Whether a line ends in blanks up to column 83 and a line feed from index `from` on.
+#[tactic(auto, using(crate::proofs::Sets::ends_from), unfolding(crate::specs::Lines::lineEnd, crate::specs::Decimals::blanks))]
 fn ends_from(line: &[u8], from: usize) -> bool
     requires { (from ≤ 83) × (length line.now ≡ 84) }
     ensures { result ≡ same (drop from line.now) (lineEnd from) }
@@ -189,6 +191,7 @@ fn ends_from(line: &[u8], from: usize) -> bool
 }
 
 // A line of 84 bytes with a known tag.
+#[tactic(auto, unfolding(crate::specs::Records::recordIn))]
 fn read_record(line: &[u8], tag: Tag) -> TextLine
     requires { length line.now ≡ 84 }
     ensures { result ≡ recordIn tag line.now }
@@ -216,6 +219,7 @@ pub fn parse_line(line: &[u8]) -> TextLine
 }
 
 // Whether a line is the heading of the text book.
+#[tactic(auto, unfolding(crate::specs::Lines::heading, crate::specs::Lines::lineWith, crate::specs::Lines::lineEnd, crate::specs::Decimals::blanks))]
 pub fn is_heading(line: &[u8]) -> bool
     ensures { result ≡ same line.now heading }
 {

@@ -8,30 +8,29 @@ ghost use Rattle.columns.specs.Lines.{width_of, fields, all_fit, columnsOf, line
 use roots::limits::magnitude;
 
 // The bytes of s from index at on.
+#[tactic(auto, using(crate::proofs::Sets::put_bytes))]
 fn put_bytes(buf: &mut [u8], at: usize, s: &[u8])
     requires { at + length s.now ≤ length buf.old }
     ensures { buf.new ≡ put_at buf.old at s.now }
 {
-    let mut i = 0;
-    while i < s.len() {
+    for i in 0..s.len() {
         buf[at + i] = s[i];
-        i += 1;
     }
 }
 
 // n blanks from index at on.
+#[tactic(auto, using(crate::proofs::Sets::put_blanks))]
 fn put_blanks(buf: &mut [u8], at: usize, n: usize)
     requires { at + n ≤ length buf.old }
     ensures { buf.new ≡ put_at buf.old at (blanks n) }
 {
-    let mut i = 0;
-    while i < n {
+    for i in 0..n {
         buf[at + i] = b' ';
-        i += 1;
     }
 }
 
 // How many digits x has.
+#[tactic(auto, using(crate::proofs::Sets::count_digits))]
 fn count_digits(x: u64) -> usize
     ensures { result ≡ length (digits x) }
 {
@@ -45,6 +44,7 @@ fn count_digits(x: u64) -> usize
 }
 
 // Whether x fits k columns.
+#[tactic(auto, using(crate::proofs::Sets::fits), unfolding(crate::specs::Decimals::fitsIn))]
 pub fn fits(x: i64, k: usize) -> bool
     ensures { result ≡ fitsIn k x }
 {
@@ -53,6 +53,7 @@ pub fn fits(x: i64, k: usize) -> bool
 }
 
 // The digits of x up to index end: the index of the first.
+#[tactic(auto, using(crate::proofs::Sets::put_digits))]
 fn put_digits(buf: &mut [u8], end: usize, x: u64) -> usize
     requires { (length (digits x) ≤ end) × (end ≤ length buf.old) }
     ensures x_value { result + length (digits x) ≡ end }
@@ -70,6 +71,7 @@ fn put_digits(buf: &mut [u8], end: usize, x: u64) -> usize
 }
 
 // x in decimal up to index end: the index of its first byte.
+#[tactic(auto, using(crate::proofs::Sets::put_decimal))]
 fn put_decimal(buf: &mut [u8], end: usize, x: i64) -> usize
     requires { (length (decimal x) ≤ end) × (end ≤ length buf.old) }
     ensures x_value { result + length (decimal x) ≡ end }
@@ -84,6 +86,7 @@ fn put_decimal(buf: &mut [u8], end: usize, x: i64) -> usize
 }
 
 // x right-justified in k columns from index at on.
+#[tactic(auto, using(crate::proofs::Sets::put_number))]
 fn put_number(buf: &mut [u8], at: usize, x: i64, k: usize)
     requires { (fitsIn k x ≡ true) × (at + k ≤ length buf.old) }
     ensures { buf.new ≡ put_at buf.old at (pad k x) }
@@ -93,6 +96,7 @@ fn put_number(buf: &mut [u8], at: usize, x: i64, k: usize)
 }
 
 // The columns of a field with `after` more fields after it.
+#[tactic(auto, using(crate::proofs::Sets::width_of), unfolding(crate::specs::Lines::width_of))]
 fn width_of(wide: bool, after: usize) -> usize
     ensures { result ≡ width_of wide after }
 {
@@ -103,6 +107,7 @@ fn width_of(wide: bool, after: usize) -> usize
 }
 
 // The columns of n fields.
+#[tactic(auto, using(crate::proofs::Sets::columns_of), unfolding(crate::specs::Lines::columnsOf))]
 fn columns_of(wide: bool, n: usize) -> usize
     requires { n ≤ 10 }
     ensures { result ≡ columnsOf wide n }
@@ -114,14 +119,12 @@ fn columns_of(wide: bool, n: usize) -> usize
 }
 
 // Whether each number fits its field.
+#[tactic(auto, using(crate::proofs::Sets::all_fit), unfolding(crate::specs::Lines::all_fit))]
 fn all_fit(numbers: &[i64], wide: bool) -> bool
     ensures { result ≡ all_fit wide numbers.now }
 {
-    let mut i = 0;
-    while i < numbers.len() {
-        let x = numbers[i];
-        i += 1;
-        if !fits(x, width_of(wide, numbers.len() - i)) {
+    for i in 0..numbers.len() {
+        if !fits(numbers[i], width_of(wide, numbers.len() - (i + 1))) {
             return false;
         }
     }
@@ -129,6 +132,7 @@ fn all_fit(numbers: &[i64], wide: bool) -> bool
 }
 
 // Whether a line has room for a tag of this length and the numbers, and each number fits its field.
+#[tactic(auto, using(crate::proofs::Sets::line_fits))]
 fn line_fits(letters: usize, numbers: &[i64], wide: bool) -> bool
     ensures { result ≡ lineFits letters numbers.now wide }
 {
@@ -145,23 +149,22 @@ fn line_fits(letters: usize, numbers: &[i64], wide: bool) -> bool
 }
 
 // The numbers in fields from index at on.
+#[tactic(auto, using(crate::proofs::Sets::put_fields), unfolding(crate::specs::Lines::fields))]
 fn put_fields(buf: &mut [u8], at: usize, numbers: &[i64], wide: bool)
     requires numbers_value { all_fit wide numbers.now ≡ true }
     requires numbers_in_bounds { at + columnsOf wide (length numbers.now) ≤ length buf.old }
     ensures { buf.new ≡ put_at buf.old at (fields wide numbers.now) }
 {
     let mut next = at;
-    let mut i = 0;
-    while i < numbers.len() {
-        let x = numbers[i];
-        i += 1;
-        let k = width_of(wide, numbers.len() - i);
-        put_number(buf, next, x, k);
+    for i in 0..numbers.len() {
+        let k = width_of(wide, numbers.len() - (i + 1));
+        put_number(buf, next, numbers[i], k);
         next += k;
     }
 }
 
 // The line of a tag and numbers that fit it, where the buffer has room for it.
+#[tactic(auto, using(crate::proofs::Sets::write_line), unfolding(crate::specs::Lines::lineEnd, crate::specs::Decimals::blanks))]
 fn write_line(buf: &mut [u8], at: usize, tag: &[u8], numbers: &[i64], wide: bool)
     requires wide_value { lineFits (length tag.now) numbers.now wide ≡ true }
     requires at_in_bounds { at + 84 ≤ length buf.old }
@@ -178,6 +181,7 @@ fn write_line(buf: &mut [u8], at: usize, tag: &[u8], numbers: &[i64], wide: bool
 
 // The line of a tag and numbers from index at on, the last field wide or not: whether it was written. Nothing is where they do not fit, or the
 // buffer has no room.
+#[tactic(auto, using(crate::proofs::Sets::put_line))]
 pub fn put_line(buf: &mut [u8], at: usize, tag: &[u8], numbers: &[i64], wide: bool) -> bool
     ensures value { result ≡ lineFits (length tag.now) numbers.now wide && leb (at + 84) (length buf.old) }
     ensures buf_after { buf.new ≡ placed buf.old at (tagLine tag.now numbers.now wide) }
@@ -196,6 +200,7 @@ pub fn put_line(buf: &mut [u8], at: usize, tag: &[u8], numbers: &[i64], wide: bo
 }
 
 // The report's title from index at on: whether the buffer had room for it.
+#[tactic(auto, unfolding(crate::specs::Lines::title, crate::specs::Lines::tagLine, crate::specs::Lines::lineFits, crate::specs::Lines::columnsOf, crate::specs::Lines::all_fit, crate::specs::Lines::fields))]
 pub fn put_title(buf: &mut [u8], at: usize) -> bool
     ensures value { result ≡ leb (at + 84) (length buf.old) }
     ensures buf_after { buf.new ≡ placed buf.old at title }
@@ -205,6 +210,7 @@ pub fn put_title(buf: &mut [u8], at: usize) -> bool
 }
 
 // Whether a height takes a wide field.
+#[tactic(auto, unfolding(crate::specs::Lines::is_wide))]
 pub fn is_wide(height: i64) -> bool
     ensures { result ≡ is_wide height }
 {

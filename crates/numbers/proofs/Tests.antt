@@ -51,6 +51,13 @@ pub or_r : (a b : Bool) → a || b ≡ false → b ≡ false
 or_r true b e = no_true (sym e)
 or_r false b e = e
 
+pub or-left : {a : Bool} (b : Bool) → a ≡ true → a || b ≡ true
+or-left b e = λ j. e j || b
+
+pub or-right : (a : Bool) {b : Bool} → b ≡ true → a || b ≡ true
+or-right true e = refl
+or-right false e = e
+
 -- two tests of naturals that hold together
 pub leb-same : (x y u v : ℕ) → (x ≤ y → u ≤ v) → (u ≤ v → x ≤ y) → leb x y ≡ leb u v
 leb-same x y u v there back = go (dec_le x y)
