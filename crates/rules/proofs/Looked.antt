@@ -1,7 +1,7 @@
 -- What is seen of a book where the code is lent the numbers of its sections, or none of their lists: each call but closing finds the same of them as of
 -- the book.
 use mathlib.Core.Path.{◌≡◌, refl, sym, ap, ◌∙◌}
-use mathlib.Core.Bool.{Bool, false, not, cond, ◌&&◌, ◌||◌}
+use mathlib.Core.Bool.{Bool, true, false, not, cond, ◌&&◌, ◌||◌}
 use mathlib.Core.List.{List, [], ◌∷◌, ◌++◌, map}
 use Prim.Native.Nat.{ℕ, zero, suc, ◌+◌, ◌%◌}
 use lib.Dec.{leb, eqb}
@@ -12,36 +12,38 @@ use Rattle.numbers.specs.Tables.{first_of}
 use Rattle.station.specs.Station.{stationOf, figuresOf}
 use Rattle.adjust.specs.declared.Section.{Section}
 use Rattle.adjust.specs.declared.Sections.{Sections}
-use Rattle.adjust.specs.Sections.{sectionsFrom, sectionsOf}
+use Rattle.adjust.specs.Sections.{sectionsFrom, sectionsOf, lent, misfit}
 use Rattle.adjust.specs.Terms.{termsOf}
 use Rattle.adjust.proofs.Lists.{from-length}
-use Rattle.adjust.proofs.Lent.{any-alike}
+use Rattle.adjust.proofs.Lent.{any-alike, misfit-lent}
 use Rattle.rules.specs.declared.Line.{Line}
 use Rattle.rules.specs.declared.Book.{Book}
 use Rattle.rules.specs.declared.broken.Seen.{Seen}
 use Rattle.rules.specs.LineState.{LineState, state_of, isFresh, isOpen, is_empty, isReturn, isShut, began, onLine, outwardOrReturn, bothWays, lineBroken}
-use Rattle.rules.specs.Rules.{open-line, station, end-run, drop-run, open-spur, collimation, openTests, closeTests, stateTests, discrepancyWithin, inputTests, stationTests, bookRefusal}
+use Rattle.rules.specs.Rules.{open-line, station, end-run, drop-run, open-spur, collimation, openTests, closeTests, stateTests, discrepancyWithin, inputTests, stationTests, brokenIn, bookRefusal}
 use Rattle.rules.specs.code.Seen.{numbered, numbersIn, beside, isAmong, seenIn}
 use Rattle.rules.specs.code.Opened.{openRefusal}
 use Rattle.rules.proofs.Unbroken.{empty-count}
 
 -- ---- what was seen, by whether the line is broken
 
-module _ (l : Line) (count : ℕ) (ns : List ℤ) where
-  pub shown : {t : Bool} → lineBroken l count ≡ t → record { broken = t; shut = not t && isAmong count ns l.opening.start.number } ≡ seenIn l count ns
-  shown e = λ i. record { broken = sym e i; shut = not (sym e i) && isAmong count ns l.opening.start.number }
+module _ (l : Line) (count : ℕ) (ns : List ℤ) {x : Seen} (e : x ≡ seenIn l count ns) where
+  pub saw-broken : {t : Bool} → x.broken ≡ t → lineBroken l count ≡ t
+  saw-broken h = sym (ap (λ (y : Seen). y.broken) e) ∙ h
 
-  module _ {x : Seen} (e : x ≡ seenIn l count ns) where
-    pub saw-broken : {t : Bool} → x.broken ≡ t → lineBroken l count ≡ t
-    saw-broken h = sym (ap (λ (y : Seen). y.broken) e) ∙ h
-
-    pub saw-shut : x.broken ≡ false → x.shut ≡ isShut (numbersIn l count ns)
-    saw-shut h = ap (λ (y : Seen). y.shut) e ∙ ap (λ (t : Bool). not t && isAmong count ns l.opening.start.number) (saw-broken h)
+  pub saw-shut : x.broken ≡ false → x.shut ≡ isShut (numbersIn l count ns)
+  saw-shut h = ap (λ (y : Seen). y.shut) e ∙ ap (λ (t : Bool). not t && isAmong count ns l.opening.start.number) (saw-broken h)
 
 -- ---- 20, by the count
 
 pub counted-broken : (l : Line) (s : Sections) → lineBroken l (length (sectionsOf s)) ≡ lineBroken l s.count
 counted-broken l s = ap (lineBroken l) (from-length s 0 s.count)
+
+-- of a closing, which reads the lent lists of the sections too
+pub closing-broken : (b : Book) {m k t : Bool}
+    → m ≡ misfit (sectionsOf (lent b.sections.count b.sections.heights b.sections.distances b.sections.discrepancies)) → k ≡ lineBroken b.line b.sections.count → m || k ≡ t
+    → brokenIn true (state_of b) ≡ t
+closing-broken b e f g = (λ i. sym (e ∙ misfit-lent b.sections) i || (counted-broken b.line b.sections ∙ sym f) i) ∙ g
 
 -- ---- of the book and of its numbers
 
@@ -52,8 +54,8 @@ numbers-alike s t e k zero = refl
 numbers-alike s t e k (suc n) = λ i. get_or (e i) k (pos 0) ∷ numbers-alike s t e (k + 1) n i
 
 module _ (b : Book) where
-  abbrev lent : Sections
-  lent = numbered b.sections.count b.sections.numbers
+  abbrev numbersOnly : Sections
+  numbersOnly = numbered b.sections.count b.sections.numbers
 
   abbrev v : LineState
   v = state_of b
@@ -63,19 +65,19 @@ module _ (b : Book) where
 
   -- a number is on the line of the arrays' sections where it is among the numbers
   on_alike : (number : ℤ) → onLine w number ≡ onLine v number
-  on_alike number = any-alike (λ (x : Section). eqZ x.number number) lent b.sections (λ k. refl) 0 b.sections.count
+  on_alike number = any-alike (λ (x : Section). eqZ x.number number) numbersOnly b.sections (λ k. refl) 0 b.sections.count
 
   pub shut-alike : isShut w ≡ isShut v
   shut-alike = on_alike b.line.opening.start.number
 
   pub began-alike : began w ≡ began v
-  began-alike = ap (last_of b.line.opening.start.number) (numbers-alike lent b.sections refl 0 b.sections.count)
+  began-alike = ap (last_of b.line.opening.start.number) (numbers-alike numbersOnly b.sections refl 0 b.sections.count)
 
   empty-alike : is_empty w.sections ≡ is_empty v.sections
-  empty-alike = empty-count lent ∙ sym (empty-count b.sections)
+  empty-alike = empty-count numbersOnly ∙ sym (empty-count b.sections)
 
   counted : length w.sections ≡ length v.sections
-  counted = from-length lent 0 b.sections.count ∙ sym (from-length b.sections 0 b.sections.count)
+  counted = from-length numbersOnly 0 b.sections.count ∙ sym (from-length b.sections 0 b.sections.count)
 
   counted-beside : length (beside b.line b.sections.count).sections ≡ length v.sections
   counted-beside = from-length (numbered b.sections.count []) 0 b.sections.count ∙ sym (from-length b.sections 0 b.sections.count)

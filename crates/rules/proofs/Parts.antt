@@ -1,14 +1,19 @@
--- A refusal by its parts: the input's number, else 20, else the state's number. First of any two tables with 20 between them, then of a call's.
+-- A refusal by its parts: the input's number, else 20, else the state's number. First of any two tables with 20 between them, then of a call's; and the
+-- input's number where the one test is that of a benchmark's.
 use mathlib.Core.Path.{◌≡◌, refl, sym, ap, ◌∙◌}
-use mathlib.Core.Bool.{Bool, true, false, cond}
-use mathlib.Core.List.{List, ◌∷◌, ◌++◌}
+use mathlib.Core.Bool.{Bool, true, false, not, cond}
+use mathlib.Core.List.{List, [], ◌∷◌, ◌++◌}
 use Prim.Native.Nat.{ℕ}
 use lib.Dec.{eqb}
 use borrow.Author.Tests.{ne_eqb}
+use lib.IntN.{ℤ}
+use mir.Syntax.{w64}
+use mir.Val.{SFits}
+use Rattle.numbers.proofs.Machine.{stored, stored-id}
 use Rattle.numbers.specs.Tables.{first_of}
 use Rattle.numbers.proofs.Tables.{numbered, first-append}
 use Rattle.rules.specs.LineState.{LineState}
-use Rattle.rules.specs.Rules.{Call, broken, inputTests, stateTests, bookRefusal}
+use Rattle.rules.specs.Rules.{Call, broken, numberInRange, inputTests, stateTests, bookRefusal}
 use Rattle.rules.proofs.Tables.{tables}
 
 module _ (is ss : List (ℕ × Bool)) (twenty : Bool) (numbers : numbered is ≡ true) where
@@ -47,3 +52,7 @@ module _ (v : LineState) (c : Call) where
   pub later-refused : (n : ℕ) → first_of (inputTests c) ≡ 0 → n ≡ first_of ((20, broken v c) ∷ stateTests v c) → n ≡ bookRefusal v c
   unfolding bookRefusal
   later-refused = first-later (inputTests c) (stateTests v c) (broken v c) (tables v c).inputs
+
+-- the code's test is made of the number as it is stored
+pub number-refused : (n : ℤ) {r t : Bool} → SFits w64 n → r ≡ numberInRange (stored n) → r ≡ t → first_of ((4, not (numberInRange n)) ∷ []) ≡ cond (not t) 4 0
+number-refused n f e g = ap (λ (b : Bool). cond (not b) 4 0) (sym (e ∙ ap numberInRange (stored-id f)) ∙ g)

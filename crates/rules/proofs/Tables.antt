@@ -1,13 +1,12 @@
 -- The tables of the calls' tests: what their numbers satisfy, computed for every state of a line at once, a line for each call; and that a call that is
 -- taken fails every test.
-use mathlib.Core.Path.{◌≡◌, refl, sym, ◌∙◌}
+use mathlib.Core.Path.{◌≡◌, sym, ◌∙◌}
 use mathlib.Core.Bool.{Bool, true, false, not, ◌&&◌}
-use mathlib.Core.List.{List, ◌∷◌, ◌++◌}
+use mathlib.Core.List.{List, ◌++◌}
 use Prim.Native.Nat.{ℕ}
 use borrow.Author.Rules.{rules}
 use lib.Dec.{leb, eqb}
 use lib.ListN.{length}
-use lib.IntN.{ℤ}
 use Rattle.adjust.specs.Sections.{misfit}
 use Rattle.numbers.proofs.Tests.{or_r}
 use Rattle.numbers.proofs.Tables.{eachNumber, numbered, test_of, failed, rises}

@@ -52,12 +52,10 @@ pub(crate) fn on_line(numbers: &[i64], count: usize, number: i64) -> bool
     requires { count ≤ length numbers.now }
     ensures { result ≡ isAmong count numbers.now number }
 {
-    let mut k = 0;
-    while k < count {
+    for k in 0..count {
         if numbers[k] == number {
             return true;
         }
-        k += 1;
     }
     false
 }
