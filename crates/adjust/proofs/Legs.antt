@@ -9,19 +9,23 @@ use native.Mathlib.Nat.{lt_of_not-le}
 use native.Mathlib.Omega.{arith}
 use borrow.Author.Tests.{lt-ltb, lt-leb}
 use lib.Dec.{eqb}
-use lib.ListN.{length, get_or, take, drop, length-map, get_or-replicate, get_or-map}
+use lib.ListN.{length, get_or, set, take, drop, length-map, get_or-replicate, get_or-map}
 use lib.Seq.{take-length}
 use lib.IntN.{ℤ, pos}
+use Rattle.std.proofs.lemmas.Int.{to_z-of_z}
 use Rattle.numbers.specs.Numbers.{filled, over}
 use Rattle.numbers.proofs.Arrays.{drop-next}
-use Rattle.numbers.proofs.Filled.{filled-length, filled-take}
-use Rattle.records.specs.Answers.{number_of, answer_of}
+use Rattle.numbers.proofs.Filled.{filled-length, filled_next, filled-take}
 use Rattle.adjust.specs.declared.Section.{Section}
 use Rattle.adjust.specs.declared.entry.Leg.{Leg}
 use Rattle.adjust.specs.Sections.{sectionAt, sectionsFrom, sectionsOf}
 use Rattle.adjust.specs.Call.{adjustRefusal, adjustedHeights, heightsAfter}
 use Rattle.adjust.specs.Legs.{legSection, legSections, noLeg, gathered, legTable}
 use Rattle.adjust.proofs.Lists.{from-length}
+
+-- one leg more is gathered
+pub gathered_next : (table xs : List Leg) (k : ℕ) → table ≡ gathered xs k → k < length xs → k < 64 → set table k (get_or xs k noLeg) ≡ gathered xs (k + 1)
+gathered_next table xs k e h g = ap (λ (l : List Leg). set l k (get_or xs k noLeg)) e ∙ filled_next noLeg 64 xs k noLeg h g
 
 -- ---- up to 64
 
@@ -58,13 +62,13 @@ too_many start end ss places h = rw (lt-leb (length ss) 64 h, lt-ltb 0 (length s
 
 -- the call's number, and the height list after it
 abbrev pub outcome : ℤ → ℤ → List Section → List ℤ → ℕ × List ℤ
-outcome start end ss hs = (number_of (answer_of (adjustRefusal start end ss (length hs))), heightsAfter start end ss hs)
+outcome start end ss hs = (adjustRefusal start end ss (length hs), heightsAfter start end ss hs)
 
 refused : (start end : ℤ) (ss : List Section) (hs : List ℤ) → 64 < length ss → outcome start end ss hs ≡ (11, hs)
 unfolding heightsAfter
 refused start end ss hs h =
     let e = too_many start end ss (length hs) h in
-    λ i. (number_of (answer_of (e i)), cond (eqb (e i) 0) (over (adjustedHeights start end ss) hs) hs)
+    λ i. (e i, cond (eqb (e i) 0) (over (adjustedHeights start end ss) hs) hs)
 
 pub gathered-outcome : (start end : ℤ) (xs : List Leg) (hs : List ℤ)
     → outcome start end (sectionsOf (legTable (gathered xs (min (length xs) 64)) (length xs))) hs ≡ outcome start end (legSections xs) hs
@@ -81,3 +85,16 @@ gathered-outcome start end xs hs = go (dec_le (length xs) 64)
         let many : 64 < length xs = lt_of_not-le f in
         refused start end (table (min (length xs) 64)) hs (omega (arith, from-length (legTable (gathered xs (min (length xs) 64)) (length xs)) 0 (length xs)))
         ∙ sym (refused start end (legSections xs) hs (omega (arith, length-map xs legSection)))
+
+-- the two parts, of the table that the code has gathered
+module _ (start end : ℤ) (xs : List Leg) (hs : List ℤ) (table : List Leg) (m : ℕ) (e : m ≡ min (length xs) 64) (g : table ≡ gathered xs m) where
+  same : outcome start end (sectionsOf (legTable table (length xs))) hs ≡ outcome start end (legSections xs) hs
+  same = ap (λ (t : List Leg). outcome start end (sectionsOf (legTable t (length xs))) hs) (g ∙ ap (gathered xs) e) ∙ gathered-outcome start end xs hs
+
+  pub gathered-refusal : adjustRefusal start end (sectionsOf (legTable table (length xs))) (length hs) ≡ adjustRefusal start end (legSections xs) (length hs)
+  gathered-refusal = ap (λ (o : ℕ × List ℤ). o.0) same
+
+  pub gathered-heights : heightsAfter start end (sectionsOf (legTable table (length xs))) hs ≡ heightsAfter start end (legSections xs) hs
+  gathered-heights = ap (λ (o : ℕ × List ℤ). o.1) same
+
+pub ruleset gathers = (gathered-refusal, gathered-heights, to_z-of_z)

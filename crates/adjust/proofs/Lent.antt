@@ -3,6 +3,7 @@ use mathlib.Core.Path.{◌≡◌, refl, sym, ap, ◌∙◌}
 use mathlib.Core.Bool.{Bool, false, not, ◌||◌}
 use Prim.Native.Nat.{ℕ, zero, suc, ◌+◌}
 use lib.Dec.{leb}
+use Rattle.std.proofs.lemmas.Int.{to_z-of_z}
 use Rattle.numbers.specs.Numbers.{any_of}
 use Rattle.adjust.specs.declared.Section.{Section}
 use Rattle.adjust.specs.declared.Sections.{Sections}
@@ -26,3 +27,6 @@ module _ (s : Sections) where
 
   pub misfit-lent : misfit (sectionsOf (lent s.count s.heights s.distances s.discrepancies)) ≡ misfit (sectionsOf s)
   misfit-lent = counted (lent s.count s.heights s.distances s.discrepancies) refl ∙ (λ i. not (leb s.count 64) || outside-lent false i) ∙ sym (counted s refl)
+
+-- whether figures fit, by the lent arrays and the machine's heights
+pub ruleset fitting_tests = (from-length, misfit-lent, to_z-of_z)

@@ -1,5 +1,5 @@
--- What callers cite: Lines, the adjustment's theorem in any units; Refused and Legs, the adjustment call; Lists, Holding, Lent, Sized and Bounded, sections in arrays
--- and the sizes of their figures; Classes, the table of classes. LegArray serves the adjustment call.
+-- What callers cite: Lines, the adjustment's theorem in any units; Refused, Taken and Legs, the adjustment call; Lists, Holding, Lent, Sized and Bounded, sections in
+-- arrays and the sizes of their figures; Classes, the table of classes.
 pub mod Classes
 pub mod Lines
 pub mod Lists
@@ -7,6 +7,7 @@ pub mod Bounded
 pub mod Sized
 pub mod Holding
 pub mod Lent
-pub mod Refused
 pub mod Legs
-pub mod LegArray
+pub mod Refused
+pub mod Taken
+pub mod Copies

@@ -8,6 +8,7 @@ use lib.ListN.{length}
 use lib.IntN.{ℤ, pos, nat_abs, ◌+ℤ◌}
 use lib.Signed.{◌≤ℤ◌, le_z}
 use borrow.Author.Tests.{le-leb}
+use Rattle.std.proofs.lemmas.Bool.Decides.{nat_tests}
 use Rattle.numbers.specs.Numbers.{within, between}
 use Rattle.numbers.proofs.Tests.{and_l, and_r}
 use Rattle.numbers.proofs.All.{All, all_head, all_tail, all-weaken}
@@ -51,6 +52,9 @@ pub from-length : (s : Sections) (k n : ℕ) → length (sectionsFrom s k n) ≡
 unfolding sectionsFrom
 from-length s k zero = refl
 from-length s k (suc n) = ap suc (from-length s (k + 1) n)
+
+-- tests of how many sections there are
+pub ruleset counts = (from-length, nat_tests)
 
 -- ---- sections in the wider range
 

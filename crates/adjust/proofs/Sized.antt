@@ -12,6 +12,7 @@ use lib.Signed.{◌≤ℤ◌, le_z}
 use Rattle.numbers.proofs.Tests.{holds, fails, and_l, and_r, or_l, or_r, not-true, not-false}
 use Rattle.numbers.proofs.Parts.{ints, parts_add, parts-abs, test-le}
 use Rattle.numbers.proofs.Sizes.{abs-add}
+use Rattle.std.proofs.lemmas.Int.{to_z-of_z}
 use Rattle.numbers.proofs.Tables.{failed}
 use Rattle.numbers.proofs.Chain.{plain, add, sub, mul}
 use Rattle.adjust.specs.declared.Opening.{Opening}
@@ -101,6 +102,16 @@ fitting start end s e =
       },
       record { few = few; sections = inside },
     )
+
+module _ (start end : ℤ) (s : Sections) (e : figuresFit start end (sectionsOf s) ≡ true) where
+  pub fit-between : Between start end s
+  fit-between = (fitting start end s e).0
+
+  pub fit-fitted : Fitted s
+  fit-fitted = (fitting start end s e).1
+
+-- what is asked where figures fit, by the machine's heights
+pub ruleset fits = (quarters-in, fit-between, fit-fitted, to_z-of_z)
 
 -- ---- what is answered of figures that fit, and of those that do not
 

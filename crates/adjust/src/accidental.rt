@@ -35,10 +35,8 @@ fn squares_of(squared: i64, s: Sections) -> i64
 {
     let count = s.count;
     let mut t = Total { squares: 0 };
-    let mut k = 0;
-    while k < count {
+    for k in 0..count {
         t = with_square(t, squared, section_at(s, k));
-        k += 1;
     }
     t.squares
 }

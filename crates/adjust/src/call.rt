@@ -13,6 +13,7 @@ use super::{Point, QUARTERS, Sections, WHOLES, height_in_range};
 use records::Answer;
 
 // The refusal of the call for a height list of so many places: 11, 13, 12 or 5, or 0.
+#[tactic(auto, using(crate::proofs::Refused::refusals))]
 fn adjust_refusal(start: i64, end: i64, s: Sections, places: usize) -> u8
     ensures { result ≡ adjustRefusal start end (sectionsOf s) places }
 {
@@ -39,16 +40,13 @@ fn put_heights(points: [Point; 65], count: usize, heights: &mut [i64])
     requires { (count ≤ 64) × (count ≤ length heights.old) }
     ensures { heights.new ≡ over (map (λ (p : Point). p.height) (take count (drop 1 points))) heights.old }
 {
-    let mut k = 0;
-    while k < count {
-        let point = points[k + 1];
-        let height = point.height;
-        heights[k] = height;
-        k += 1;
+    for k in 0..count {
+        heights[k] = points[k + 1].height;
     }
 }
 
 // The adjusted heights of the sections between two known heights, one a section, into a lent list.
+#[tactic(auto, using(crate::proofs::Taken::taken), unfolding(crate::specs::Call::heightsAfter))]
 pub fn adjust(start: i64, end: i64, s: Sections, heights: &mut [i64]) -> Answer
     ensures value { (result ≡ answer_of (adjustRefusal start end (sectionsOf s) (length heights.old)))
         × (heights.new ≡ heightsAfter start end (sectionsOf s) heights.old) }

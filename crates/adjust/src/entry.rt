@@ -1,5 +1,5 @@
-// The adjustment call over a lent list of sections, for C and Rust. `gather` and `level_adjust` hold the lent list and are proved by hand: they
-// copy and call. All that is decided is decided in covered functions.
+// The adjustment call over a lent list of sections. `gather` and `level_adjust` hold the lent list: they copy and call, and decide
+// nothing.
 ghost use Rattle.std.specs.Prelude.{◌≡◌, ◌≤◌, min, length};
 ghost use Rattle.records.specs.Answers.{number_of, answer_of};
 ghost use Rattle.adjust.specs.Sections.{sectionsOf};
@@ -29,6 +29,7 @@ fn capped(count: usize) -> usize
 }
 
 // The first legs of the list by value, zeros behind them.
+#[tactic(auto, using(crate::proofs::Legs::gathered_next))]
 fn gather(legs: &[Leg], count: usize) -> [Leg; 64]
     requires { (count ≤ length legs.now) × (count ≤ 64) }
     ensures { result ≡ gathered legs.now count }
@@ -38,10 +39,8 @@ fn gather(legs: &[Leg], count: usize) -> [Leg; 64]
         distance: 0,
     };
     let mut table = [none; 64];
-    let mut k = 0;
-    while k < count {
+    for k in 0..count {
         table[k] = legs[k];
-        k += 1;
     }
     table
 }
@@ -53,14 +52,9 @@ fn table_of(legs: [Leg; 64], count: usize) -> Sections
     let zeros = [0; 64];
     let mut heights = zeros;
     let mut distances = zeros;
-    let mut k = 0;
-    while k < 64 {
-        let leg = legs[k];
-        let height = leg.height;
-        let distance = leg.distance;
-        heights[k] = height;
-        distances[k] = distance;
-        k += 1;
+    for k in 0..64 {
+        heights[k] = legs[k].height;
+        distances[k] = legs[k].distance;
     }
     Sections {
         count: count,
@@ -90,9 +84,9 @@ fn adjust_legs(legs: [Leg; 64], count: usize, start: i64, end: i64, heights: &mu
 }
 
 // The adjusted heights of the lent legs between two known heights, one a leg, into the lent list; the answer is document 01's number, 0 for a
-// call that is taken. In C each list is a pointer and a length.
-#[unsafe(no_mangle)]
-pub extern "C" fn level_adjust(legs: &[Leg], start: i64, end: i64, heights: &mut [i64]) -> u8
+// call that is taken.
+#[tactic(auto, using(crate::proofs::Legs::gathers))]
+pub fn level_adjust(legs: &[Leg], start: i64, end: i64, heights: &mut [i64]) -> u8
     ensures { (result ≡ number_of (answer_of (adjustRefusal start end (legSections legs.now) (length heights.old))))
         × (heights.new ≡ heightsAfter start end (legSections legs.now) heights.old) }
 {

@@ -83,12 +83,9 @@ pub(crate) fn points_of(f: Frame, number: i64, s: Sections) -> [Point; 65]
         height: 0,
         point: first,
     };
-    let mut k = 0;
-    while k < count {
+    for k in 0..count {
         w = next_point(f, w, section_at(s, k));
-        k += 1;
-        let point = w.point;
-        points[k] = point;
+        points[k + 1] = w.point;
     }
     points
 }

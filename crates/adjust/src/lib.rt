@@ -130,6 +130,7 @@ pub fn height_in_range(h: i64) -> bool
 }
 
 // Whether there are 1 to 64 sections in the wider range, between heights in theirs: then all figures fit 64 bits.
+#[tactic(auto, using(crate::proofs::Lent::fitting_tests), unfolding(crate::specs::Frames::figuresFit))]
 fn figures_fit(start: i64, end: i64, s: Sections) -> bool
     ensures { result ≡ figuresFit start end (sectionsOf s) }
 {
@@ -138,6 +139,7 @@ fn figures_fit(start: i64, end: i64, s: Sections) -> bool
 }
 
 // W and L of the sections between two known heights, where `figures_fit`.
+#[tactic(auto, using(crate::proofs::Sized::fits), unfolding(crate::specs::Frames::lineTotals))]
 pub fn totals_of(start: i64, end: i64, s: Sections) -> LineTotals
     ensures { result ≡ lineTotals start end (sectionsOf s) }
 {
@@ -174,6 +176,7 @@ fn closing_of(opening: Opening, end: i64, s: Sections) -> LineFigures
 }
 
 // What closing the line gives, where `figures_fit`: W, L, n, T, the verdict and the points. Of a spur `end` is only held to its range.
+#[tactic(auto, using(crate::proofs::Sized::fits), unfolding(crate::specs::Frames::lineFigures))]
 pub fn adjusted_line(opening: Opening, end: i64, s: Sections) -> LineFigures
     ensures { result ≡ lineFigures opening end (sectionsOf s) }
 {

@@ -34,10 +34,8 @@ fn sums_of(s: Sections) -> Sums
         height: 0,
         distance: 0,
     };
-    let mut k = 0;
-    while k < count {
+    for k in 0..count {
         t = with_section(t, section_at(s, k));
-        k += 1;
     }
     t
 }

@@ -42,17 +42,16 @@ pub(crate) fn any_outside<'a>(
     requires { (count ≤ length heights.now) × ((count ≤ length distances.now) × (count ≤ length discrepancies.now)) }
     ensures { result ≡ anyOutside strict (sectionsOf (lent count heights.now distances.now discrepancies.now)) }
 {
-    let mut k = 0;
-    while k < count {
+    for k in 0..count {
         if is_outside(strict, heights[k], distances[k], discrepancies[k]) {
             return true;
         }
-        k += 1;
     }
     false
 }
 
 // Whether there are more than 64 sections, or one outside the wider range.
+#[tactic(auto, using(crate::proofs::Lists::counts))]
 pub fn misfits<'a>(
     count: usize,
     heights: &'a [i64; 64],

@@ -68,9 +68,8 @@ pub fn print_input(input: &[u8; 65269], count: usize, failed: bool, out: &mut [u
     length_of(r, 0)
 }
 
-// `reduce_text` for C and Rust, where each list is a pointer and a length: document 01's number. The report's length goes into `written`.
-#[unsafe(no_mangle)]
-pub extern "C" fn level_reduce(text: &[u8], report: &mut [u8], written: &mut usize) -> u8
+// `reduce_text` in the form in which it is exported: document 01's number. The report's length goes into `written`.
+pub fn level_reduce(text: &[u8], report: &mut [u8], written: &mut usize) -> u8
     ensures value { result ≡ reducedNumber (reducedOf text.now report.old) }
     ensures report_after { report.new ≡ bufferAfter text.now report.old }
     ensures written_after { written.new ≡ reducedLength (reducedOf text.now report.old) written.old }

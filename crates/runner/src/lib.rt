@@ -97,10 +97,9 @@ pub fn run_calls(calls: &[i64], numbers: &mut [u8]) -> Book
     b
 }
 
-// The same for C and Rust, where each list is a pointer and a length: the figures of the book that the entries leave go into the second lent list,
+// The same in the form in which it is exported: the figures of the book that the entries leave go into the second lent list,
 // as far as it has places. The answer is how many entries there are, whether or not their numbers had places.
-#[unsafe(no_mangle)]
-pub extern "C" fn level_run(calls: &[i64], numbers: &mut [u8], figures: &mut [i64]) -> usize
+pub fn level_run(calls: &[i64], numbers: &mut [u8], figures: &mut [i64]) -> usize
     ensures { (result ≡ length (entriesOf calls.now))
         × ((numbers.new ≡ written (entryRefusals freshReading (entriesOf calls.now)) numbers.old)
         × (figures.new

@@ -1,0 +1,61 @@
+-- `exact_top`: each product and sum fits for up to 64 sections, step by step.
+use Rattle.std.proofs.Common.{◌+◌, ◌*◌, ◌≤◌}
+use lib.IntN.{ℤ, nat_abs, ◌+ℤ◌, ◌-ℤ◌, ◌*ℤ◌}
+use Rattle.numbers.proofs.Machine.{stored}
+use Rattle.numbers.proofs.Chain.{Value, known, add, sub, mul, fits, kept}
+use Rattle.adjust.specs.declared.Frame.{Frame}
+use Rattle.adjust.specs.Sizes.{highest, mostUnits, mostSumQ, mostL, mostW}
+use Rattle.adjust.specs.code.Bounds.{Framed, Along}
+use Rattle.adjust.proofs.Bounded.{along-size}
+use Rattle.adjust.proofs.heights.exact_top.Goals as goal
+
+module _ (f : Frame) (q s : ℤ) (h : Framed f × (nat_abs q ≤ mostSumQ) × Along f s) where
+  abbrev length : Value (stored f.total) f.total mostL
+  length = known f.total h.0.total.most tt
+
+  begin : Value (stored f.units *ℤ stored f.start) (f.units *ℤ f.start) (mostUnits * highest)
+  begin = mul (known f.units h.0.units.most tt) (known f.start h.0.start tt)
+
+  start : Value (stored (stored f.units *ℤ stored f.start) *ℤ stored f.total) (f.units *ℤ f.start *ℤ f.total) (mostUnits * highest * mostL)
+  start = mul (kept begin tt) length
+
+  height : Value (stored q *ℤ stored f.total) (q *ℤ f.total) (mostSumQ * mostL)
+  height = mul (known q h.1 tt) length
+
+  spread : Value (stored f.closure *ℤ stored s) (f.closure *ℤ s) (mostW * mostL)
+  spread = mul (known f.closure h.0.closure tt) (known s (along-size f s h.0 h.2) tt)
+
+  raw :
+      Value (stored (stored (stored f.units *ℤ stored f.start) *ℤ stored f.total) +ℤ stored (stored q *ℤ stored f.total))
+      (f.units *ℤ f.start *ℤ f.total +ℤ q *ℤ f.total) (mostUnits * highest * mostL + mostSumQ * mostL)
+  raw = add (kept start tt) (kept height tt)
+
+  level :
+      Value
+      (stored (stored (stored (stored f.units *ℤ stored f.start) *ℤ stored f.total) +ℤ stored (stored q *ℤ stored f.total)) -ℤ stored (stored f.closure *ℤ stored s))
+      (f.units *ℤ f.start *ℤ f.total +ℤ q *ℤ f.total -ℤ f.closure *ℤ s) (mostUnits * highest * mostL + mostSumQ * mostL + mostW * mostL)
+  level = sub (kept raw tt) (kept spread tt)
+
+pub overflow_mul-result : goal.overflow_mul-result
+overflow_mul-result c = fits (begin c.args.f c.args.q c.args.s c.requires) tt
+
+pub overflow_mul-result-2 : goal.overflow_mul-result-2
+overflow_mul-result-2 c = fits (start c.args.f c.args.q c.args.s c.requires) tt
+
+pub overflow_mul-result-3 : goal.overflow_mul-result-3
+overflow_mul-result-3 c = fits (height c.args.f c.args.q c.args.s c.requires) tt
+
+pub overflow_add-result : goal.overflow_add-result
+overflow_add-result c = fits (raw c.args.f c.args.q c.args.s c.requires) tt
+
+pub overflow_mul-result-4 : goal.overflow_mul-result-4
+overflow_mul-result-4 c = fits (spread c.args.f c.args.q c.args.s c.requires) tt
+
+pub overflow_sub-result : goal.overflow_sub-result
+overflow_sub-result c = fits (level c.args.f c.args.q c.args.s c.requires) tt
+
+pub overflow_mul-result-5 : goal.overflow_mul-result-5
+overflow_mul-result-5 c = fits (mul (known c.args.f.prints c.requires.0.prints.most tt) (kept (level c.args.f c.args.q c.args.s c.requires) tt)) tt
+
+pub returns : goal.returns
+returns c = (kept (mul (known c.args.f.prints c.requires.0.prints.most tt) (kept (level c.args.f c.args.q c.args.s c.requires) tt)) tt).is
