@@ -1,4 +1,4 @@
-//! Links the static library that `rt lib exports` writes: that of the folder LEVELBOOK_LIB_DIR, or of crates/exports/out of the repository.
+//! Links the static library that `rt lib` writes in crates/exports: that of the folder LEVELBOOK_LIB_DIR, or of crates/exports/out of the repository.
 use std::path::{Path, PathBuf};
 
 fn main() {
@@ -13,7 +13,7 @@ fn main() {
     println!("cargo:rerun-if-changed={}", library.display());
     if !library.is_file() {
         eprintln!("{} is missing.", library.display());
-        eprintln!("At the root of the repository run: rt lib exports");
+        eprintln!("At the root of the repository run: (cd crates/exports && rt lib)");
         eprintln!("Or give the folder that has the library as LEVELBOOK_LIB_DIR, a full path.");
         std::process::exit(1);
     }

@@ -1,6 +1,6 @@
 /* Prints the report of a text book on standard input; with any argument, the adjusted heights of two sections.
  *
- * At the root of the repository, after `rt lib exports`:
+ * At the root of the repository, after `(cd crates/exports && rt lib)`:
  *   cc -Wall -Wextra -o embed/target/example embed/example.c crates/exports/out/libexports.a
  *   embed/target/example <examples/case-a.book
  *   embed/target/example heights */

@@ -1,6 +1,6 @@
 /* The proved levelling book of third and fourth order, for C.
  *
- * Build the library at the root of the repository with `rt lib exports`, and link crates/exports/out/libexports.a.
+ * Build the library at the root of the repository with `(cd crates/exports && rt lib)`, and link crates/exports/out/libexports.a.
  *
  * A list is lent as a pointer and a length. The pointer is not NULL even where the length is 0; lists that are lent to one call do not overlap; a
  * number list is aligned as C aligns its type. Within that the functions take every input, allocate nothing and keep nothing between calls.

@@ -19,7 +19,7 @@ const PATIENCE: Duration = Duration::from_secs(20);
 
 fn program() -> PathBuf {
     let program = path("crates/reduce/out/reduce");
-    assert!(program.is_file(), "{} is missing: run `rt run reduce </dev/null` at the root of the repository first", program.display());
+    assert!(program.is_file(), "{} is missing: run `(cd crates/reduce && rt run)` first", program.display());
     program
 }
 
