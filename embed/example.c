@@ -1,9 +1,9 @@
 /* Prints the report of a text book on standard input; with any argument, the adjusted heights of two sections.
  *
- * At the root of the repository, after `(cd crates/exports && rt lib)`:
- *   cc -Wall -Wextra -o embed/target/example embed/example.c crates/exports/out/libexports.a
- *   embed/target/example <examples/case-a.book
- *   embed/target/example heights */
+ * At the root of the repository, after `tools/build`:
+ *   cc -Wall -Wextra -o target/example embed/example.c target/staticlib/libfieldbook.a target/staticlib/libadjust.a
+ *   target/example <examples/case-a.book
+ *   target/example heights */
 #include "levelbook.h"
 
 #include <inttypes.h>

@@ -1,6 +1,7 @@
 /* The proved levelling book of third and fourth order, for C.
  *
- * Build the library at the root of the repository with `(cd crates/exports && rt lib)`, and link crates/exports/out/libexports.a.
+ * Build the libraries at the root of the repository with `tools/build`, and link those of target/staticlib whose functions you call; each is named
+ * below.
  *
  * A list is lent as a pointer and a length. The pointer is not NULL even where the length is 0; lists that are lent to one call do not overlap; a
  * number list is aligned as C aligns its type. Within that the functions take every input, allocate nothing and keep nothing between calls.
@@ -37,7 +38,7 @@ static inline const char *level_refusal(uint8_t number)
 
 /* The report of a text book into the beginning of `report`, and its length in bytes into `*written`. What is wrong within the text is said in the
  * report. Refused with 9 if the text is above LEVEL_LONGEST_TEXT bytes, else with 10 if the buffer is below LEVEL_REPORT_ROOM; then neither
- * `report` nor `*written` is touched. Bytes beyond the report keep their values. */
+ * `report` nor `*written` is touched. Bytes beyond the report keep their values. Library fieldbook. */
 uint8_t level_reduce(const uint8_t *text, size_t text_length, uint8_t *report, size_t report_length, size_t *written);
 
 /* A section: its height difference Q in quarter mm, its distance R in half dm. */
@@ -48,7 +49,7 @@ struct level_leg {
 
 /* The adjusted heights (mm) between two known heights (mm), one a section, into the first places of `heights`; further places keep their values.
  * Refused, in this order, with 11 for no or more than 64 sections, 13 for a height list shorter than the sections, 12 for an R outside 1 to
- * 1,200,000 or a Q outside +-2,500,000, 5 for a known height outside -999,999 to 8,999,999; then `heights` is untouched. */
+ * 1,200,000 or a Q outside +-2,500,000, 5 for a known height outside -999,999 to 8,999,999; then `heights` is untouched. Library adjust. */
 uint8_t level_adjust(const struct level_leg *legs, size_t count, int64_t start, int64_t end, int64_t *heights, size_t places);
 
 /* A list of entries on a fresh book, LEVEL_CALL_NUMBERS numbers an entry. An entry's first number is its kind, the others are its call's arguments, and
@@ -62,13 +63,13 @@ uint8_t level_adjust(const struct level_leg *legs, size_t count, int64_t start, 
  * at, and the book stays as it is. The answer is how many entries there are. Each entry's number goes into its place of `numbers`, the figures of the
  * book that is left into `figures`, both as far as there are places. There are LEVEL_FIGURES figures: W, L, n, T and verdict, 0 while the line is not
  * closed; of the present run its stations, the sums of twice-heights, of sights and of d; the finished sections; then number, S, correction and height
- * of the start and each section, 0 where there is none. */
+ * of the start and each section, 0 where there is none. Library runner. */
 size_t level_run(const int64_t *calls, size_t count, uint8_t *numbers, size_t answers, int64_t *figures, size_t places);
 
-/* The whole number nearest to n / d, a tie going to the even one. A d outside 1 to 4 * 10^18 stands for the nearest one inside. */
+/* The whole number nearest to n / d, a tie going to the even one. A d outside 1 to 4 * 10^18 stands for the nearest one inside. Library rootcalls. */
 int64_t level_round_half_even(int64_t n, int64_t d);
 
-/* Whether a * x * x is at most b * l, exactly. */
+/* Whether a * x * x is at most b * l, exactly. Library rootcalls. */
 bool level_root_within(uint16_t a, int64_t x, uint16_t b, int64_t l);
 
 #ifdef __cplusplus

@@ -24,8 +24,8 @@ fn run(program: &Path, text: &Path) -> Duration {
 pub fn table(text: &[u8]) {
     let file = PathBuf::from(env!("CARGO_MANIFEST_DIR")).join("target/whole.book");
     write(&file, text).expect("the text is written");
-    let reduce = path("crates/reduce/out/reduce");
-    assert!(reduce.is_file(), "{} is missing: run `(cd crates/reduce && rt run)` first", reduce.display());
+    let reduce = path("target/bin/reduce");
+    assert!(reduce.is_file(), "{} is missing: run `tools/build` first", reduce.display());
     let programs = [("reduce", reduce), ("cat", "/bin/cat".into()), ("true", "/bin/true".into())];
     let mut times = [const { Vec::new() }; 3];
     for _ in 0..RUNS {

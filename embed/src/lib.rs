@@ -1,9 +1,9 @@
 //! A levelling book of third and fourth order (GB 12898-91) for programs that embed it: staff readings go in as a text, the adjusted heights of the
 //! benchmarks come out as a report.
 //!
-//! The functions are those of the static library that `rt lib` builds in `crates/exports`, where each is proved to meet its contract. They take
+//! The functions are those of the static libraries that `tools/build` builds from `crates/`, where each is proved to meet its contract. They take
 //! every input, allocate nothing and keep nothing between calls, so threads may call them at the same time. This package only lends them slices;
-//! programs in C use `levelbook.h` beside it. The library is that of the folder `LEVELBOOK_LIB_DIR`, or of the repository's `crates/exports/out`.
+//! programs in C use `levelbook.h` beside it. The libraries are those of the folder `LEVELBOOK_LIB_DIR`, or of the repository's `target/staticlib`.
 //!
 //! ```
 //! let rows = [

@@ -46,11 +46,11 @@ fn meanings() {
 }
 
 /// Compiles a program in C; a warning is an error.
-fn compiled(name: &str, source: &Path) -> PathBuf {
+fn compiled(name: &str, source: &Path, libraries: &[&str]) -> PathBuf {
     let program = Path::new(env!("CARGO_TARGET_TMPDIR")).join(name);
     let mut compiler = Command::new("cc");
     compiler.args(["-std=c99", "-Wall", "-Wextra", "-Werror", "-pedantic", "-I"]).arg(path("embed")).arg("-o").arg(&program).arg(source);
-    compiler.arg(path("crates/exports/out/libexports.a"));
+    compiler.args(libraries.iter().map(|name| path(&format!("target/staticlib/lib{name}.a"))));
     let Output { status, stderr, .. } = compiler.output().expect("cc runs");
     assert!(status.success(), "{}", String::from_utf8_lossy(&stderr));
     program
@@ -72,7 +72,7 @@ int main(void)
 }
 "#;
     write(&source, program).expect("a file of the tests");
-    let output = Command::new(compiled("header", &source)).output().expect("the program runs");
+    let output = Command::new(compiled("header", &source, &[])).output().expect("the program runs");
     let mut expected = format!("{} {} {CALL_NUMBERS} {FIGURES}\n", levelbook::LONGEST_TEXT, REPORT_ROOM);
     page().iter().for_each(|(number, meaning)| expected.push_str(&format!("{number} {meaning}\n")));
     assert_eq!(String::from_utf8_lossy(&output.stdout), expected);
@@ -95,11 +95,11 @@ int main(void)
 }
 "#;
     write(&source, program).expect("a file of the tests");
-    let output = Command::new(compiled("list", &source)).output().expect("the program runs");
+    let output = Command::new(compiled("list", &source, &["runner"])).output().expect("the program runs");
     assert_eq!(output.stdout, b"2 0 99\n");
 }
 
-/// Builds the package's example with the library of a folder.
+/// Builds the package's example with the libraries of a folder.
 fn built_with(folder: &Path) -> Output {
     let mut cargo = Command::new(env!("CARGO"));
     cargo.args(["run", "--quiet", "--offline", "--example", "reduce_file", "--manifest-path"]).arg(path("embed/Cargo.toml")).arg("--").arg(path("examples/case-a.book"));
@@ -108,20 +108,22 @@ fn built_with(folder: &Path) -> Output {
 }
 
 #[test]
-fn the_folder_of_the_library() {
+fn the_folder_of_the_libraries() {
     let folder = Path::new(env!("CARGO_TARGET_TMPDIR")).join("libraries");
     create_dir_all(folder.join("none")).expect("a folder of the tests");
-    copy(path("crates/exports/out/libexports.a"), folder.join("libexports.a")).expect("the library");
+    for name in ["rootcalls", "adjust", "runner", "fieldbook"].map(|name| format!("lib{name}.a")) {
+        copy(path("target/staticlib").join(&name), folder.join(&name)).expect("the library");
+    }
     let output = built_with(&folder);
     assert_eq!(output.stdout, examples().remove(0).report, "{}", String::from_utf8_lossy(&output.stderr));
     let missing = built_with(&folder.join("none"));
     let complaint = String::from_utf8_lossy(&missing.stderr);
-    assert!(!missing.status.success() && complaint.contains("none/libexports.a is missing") && complaint.contains("LEVELBOOK_LIB_DIR"), "{complaint}");
+    assert!(!missing.status.success() && complaint.contains("none/librootcalls.a is missing") && complaint.contains("LEVELBOOK_LIB_DIR"), "{complaint}");
 }
 
 #[test]
 fn the_example_in_c() {
-    let program = compiled("example", &path("embed/example.c"));
+    let program = compiled("example", &path("embed/example.c"), &["fieldbook", "adjust"]);
     for example in examples() {
         let book = File::open(path(&format!("examples/{}.book", example.name))).expect("the book");
         let output = Command::new(&program).stdin(book).output().expect("the example runs");

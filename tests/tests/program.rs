@@ -18,8 +18,8 @@ use level_tests::write::filled;
 const PATIENCE: Duration = Duration::from_secs(20);
 
 fn program() -> PathBuf {
-    let program = path("crates/reduce/out/reduce");
-    assert!(program.is_file(), "{} is missing: run `(cd crates/reduce && rt run)` first", program.display());
+    let program = path("target/bin/reduce");
+    assert!(program.is_file(), "{} is missing: run `tools/build` first", program.display());
     program
 }
 

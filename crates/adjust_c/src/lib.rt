@@ -1,0 +1,19 @@
+// The adjustment call for C: a thin name for it. In C each list is a pointer and a length.
+#![tactic(auto)]
+
+ghost use Rattle.std.specs.Prelude.{◌≡◌, length};
+ghost use Rattle.records.specs.Answers.{number_of, answer_of};
+ghost use Rattle.adjust.specs.Call.{adjustRefusal, heightsAfter};
+ghost use Rattle.adjust.specs.Legs.{legSections};
+
+use adjust::entry::Leg;
+
+// The adjusted heights of the lent legs between two known heights, one a leg, into the lent list; the answer is document 01's number, 0 for a
+// call that is taken.
+#[unsafe(no_mangle)]
+pub extern "C" fn level_adjust(legs: &[Leg], start: i64, end: i64, heights: &mut [i64]) -> u8
+    ensures { (result ≡ number_of (answer_of (adjustRefusal start end (legSections legs.now) (length heights.old))))
+        × (heights.new ≡ heightsAfter start end (legSections legs.now) heights.old) }
+{
+    adjust::entry::level_adjust(legs, start, end, heights)
+}
