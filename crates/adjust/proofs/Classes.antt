@@ -5,16 +5,16 @@ use lib.IntN.{nat_abs}
 use Rattle.adjust.specs.declared.terms.Class.{Class}
 use Rattle.adjust.specs.declared.terms.Class.TheVariants.{Third, Fourth, Spur}
 use Rattle.adjust.specs.declared.terms.Terms.{Terms}
-use Rattle.adjust.specs.Sizes.{mostR, mostD, mostAllowed}
-use Rattle.adjust.specs.Terms.{termsOf}
+use Rattle.adjust.specs.Sizes.{most_r, most_d, most_allowed}
+use Rattle.adjust.specs.Terms.{terms_of}
 
 pub record Row (t : Terms) : Type 0 where
   -- D within its root of a section's R is one that fits
   pub some : 0 < t.apart.a
-  pub apart : t.apart.b * mostR ≤ mostD * mostD
-  pub accidental : nat_abs t.accidental ≤ mostAllowed
+  pub apart : t.apart.b * most_r ≤ most_d * most_d
+  pub accidental : nat_abs t.accidental ≤ most_allowed
 
-pub row : (o : Class) → Row (termsOf o)
+pub row : (o : Class) → Row (terms_of o)
 row Third = record { some = omega arith; apart = omega arith; accidental = omega arith }
 row Fourth = record { some = omega arith; apart = omega arith; accidental = omega arith }
 row Spur = record { some = omega arith; apart = omega arith; accidental = omega arith }

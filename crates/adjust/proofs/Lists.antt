@@ -11,90 +11,90 @@ use borrow.Author.Tests.{le-leb}
 use Rattle.std.proofs.lemmas.Bool.Decides.{nat_tests}
 use Rattle.numbers.specs.Numbers.{within, between}
 use Rattle.numbers.proofs.Tests.{and_l, and_r}
-use Rattle.numbers.proofs.All.{All, all_head, all_tail, all-weaken}
-use Rattle.numbers.proofs.Parts.{ints, parts-abs, test-le}
-use Rattle.numbers.proofs.Sizes.{within-size}
+use Rattle.numbers.proofs.All.{All, all_head, all_tail, all_weaken}
+use Rattle.numbers.proofs.Parts.{ints, parts_abs, test_le}
+use Rattle.numbers.proofs.Sizes.{within_size}
 use Rattle.adjust.specs.declared.Section.{Section}
 use Rattle.adjust.specs.declared.Sections.{Sections}
-use Rattle.adjust.specs.Sizes.{mostQ, mostR, mostD}
-use Rattle.adjust.specs.Sections.{sectionAt, sectionsFrom, sectionsOf, legInRange, legFits, sectionFits}
+use Rattle.adjust.specs.Sizes.{most_q, most_r, most_d}
+use Rattle.adjust.specs.Sections.{section_at, sections_from, sections_of, leg_in_range, leg_fits, section_fits}
 use Rattle.adjust.specs.declared.Frame.{Frame}
-use Rattle.adjust.specs.Line.{printedHeight, pointsAfter}
+use Rattle.adjust.specs.Line.{printed_height, points_after}
 use Rattle.adjust.specs.code.Bounds.{LegBounds}
 
 -- ---- the sections from place k on, which a loop has still to visit
 
 abbrev pub remaining : Sections → ℕ → List Section
-remaining s k = sectionsFrom s k (s.count - k)
+remaining s k = sections_from s k (s.count - k)
 
-pub all-remain : (s : Sections) → remaining s 0 ≡ sectionsOf s
-all-remain s = ap (sectionsFrom s 0) e
+pub all_remain : (s : Sections) → remaining s 0 ≡ sections_of s
+all_remain s = ap (sections_from s 0) e
   where
     e : s.count - 0 ≡ s.count
     e = omega arith
 
 -- the next one and those behind it
-pub next-remains : (s : Sections) (k : ℕ) → k < s.count → remaining s k ≡ sectionAt s k ∷ remaining s (k + 1)
-unfolding sectionsFrom
-next-remains s k h = ap (sectionsFrom s k) e
+pub next_remains : (s : Sections) (k : ℕ) → k < s.count → remaining s k ≡ section_at s k ∷ remaining s (k + 1)
+unfolding sections_from
+next_remains s k h = ap (sections_from s k) e
   where
     e : s.count - k ≡ suc (s.count - (k + 1))
     e = omega arith
 
-pub none-remain : (s : Sections) (k : ℕ) → s.count ≤ k → remaining s k ≡ []
-unfolding sectionsFrom
-none-remain s k h = ap (sectionsFrom s k) e
+pub none_remain : (s : Sections) (k : ℕ) → s.count ≤ k → remaining s k ≡ []
+unfolding sections_from
+none_remain s k h = ap (sections_from s k) e
   where
     e : s.count - k ≡ 0
     e = omega arith
 
-pub from-length : (s : Sections) (k n : ℕ) → length (sectionsFrom s k n) ≡ n
-unfolding sectionsFrom
-from-length s k zero = refl
-from-length s k (suc n) = ap suc (from-length s (k + 1) n)
+pub from_length : (s : Sections) (k n : ℕ) → length (sections_from s k n) ≡ n
+unfolding sections_from
+from_length s k zero = refl
+from_length s k (suc n) = ap suc (from_length s (k + 1) n)
 
 -- tests of how many sections there are
-pub ruleset counts = (from-length, nat_tests)
+pub ruleset counts = (from_length, nat_tests)
 
 -- ---- sections in the wider range
 
 abbrev pub Fit : List Section → Type 0
-Fit xs = All legFits xs
+Fit xs = All leg_fits xs
 
-pub leg-bounds : (x : Section) → legFits x ≡ true → LegBounds x
-leg-bounds x e =
-    let q = within x.height mostQ in
-    let r = and_r q (between (pos 1) x.distance (pos mostR)) e in
-    let low : pos 1 ≤ℤ x.distance = test-le (and_l (le_z (pos 1) x.distance) (le_z x.distance (pos mostR)) r) in
-    let high : x.distance ≤ℤ pos mostR = test-le (and_r (le_z (pos 1) x.distance) (le_z x.distance (pos mostR)) r) in
+pub leg_bounds : (x : Section) → leg_fits x ≡ true → LegBounds x
+leg_bounds x e =
+    let q = within x.height most_q in
+    let r = and_r q (between (pos 1) x.distance (pos most_r)) e in
+    let low : pos 1 ≤ℤ x.distance = test_le (and_l (le_z (pos 1) x.distance) (le_z x.distance (pos most_r)) r) in
+    let high : x.distance ≤ℤ pos most_r = test_le (and_r (le_z (pos 1) x.distance) (le_z x.distance (pos most_r)) r) in
     record {
-      height = within-size x.height mostQ (and_l q (between (pos 1) x.distance (pos mostR)) e);
+      height = within_size x.height most_q (and_l q (between (pos 1) x.distance (pos most_r)) e);
       long = low;
-      distance = omega (ints, parts-abs x.distance);
+      distance = omega (ints, parts_abs x.distance);
     }
 
-pub fit-head : (x : Section) (xs : List Section) → Fit (x ∷ xs) → LegBounds x
-fit-head x xs e = leg-bounds x (all_head legFits x xs e)
+pub fit_head : (x : Section) (xs : List Section) → Fit (x ∷ xs) → LegBounds x
+fit_head x xs e = leg_bounds x (all_head leg_fits x xs e)
 
-pub fit-tail : (x : Section) (xs : List Section) → Fit (x ∷ xs) → Fit xs
-fit-tail x xs e = all_tail legFits x xs e
+pub fit_tail : (x : Section) (xs : List Section) → Fit (x ∷ xs) → Fit xs
+fit_tail x xs e = all_tail leg_fits x xs e
 
 -- ranges that lie in it
-pub fitted-legs : (xs : List Section) → All sectionFits xs → Fit xs
-fitted-legs xs e = all-weaken sectionFits legFits (λ x h. and_l (legFits x) (within x.discrepancy mostD) h) xs e
+pub fitted_legs : (xs : List Section) → All section_fits xs → Fit xs
+fitted_legs xs e = all_weaken section_fits leg_fits (λ x h. and_l (leg_fits x) (within x.discrepancy most_d) h) xs e
 
-pub strict-legs : (xs : List Section) → All legInRange xs → Fit xs
-strict-legs xs e = all-weaken legInRange legFits wider xs e
+pub strict_legs : (xs : List Section) → All leg_in_range xs → Fit xs
+strict_legs xs e = all_weaken leg_in_range leg_fits wider xs e
   where
-    wider : (x : Section) → legInRange x ≡ true → legFits x ≡ true
+    wider : (x : Section) → leg_in_range x ≡ true → leg_fits x ≡ true
     wider x h =
-        let r = between (pos 1) x.distance (pos mostR) in
-        let q : nat_abs x.height ≤ 2500000 = within-size x.height 2500000 (and_l (within x.height 2500000) r h) in
-        (λ i. le-leb (nat_abs x.height) mostQ (omega arith) i && and_r (within x.height 2500000) r h i)
+        let r = between (pos 1) x.distance (pos most_r) in
+        let q : nat_abs x.height ≤ 2500000 = within_size x.height 2500000 (and_l (within x.height 2500000) r h) in
+        (λ i. le-leb (nat_abs x.height) most_q (omega arith) i && and_r (within x.height 2500000) r h i)
 
 -- ---- a point for each section
 
-pub points-length : (f : Frame) (q s h : ℤ) (ss : List Section) → length (pointsAfter f q s h ss) ≡ length ss
-points-length f q s h [] = refl
-points-length f q s h (x ∷ xs) =
-    ap suc (points-length f (q +ℤ x.height) (s +ℤ x.distance) (printedHeight f (q +ℤ x.height) (s +ℤ x.distance)) xs)
+pub points_length : (f : Frame) (q s h : ℤ) (ss : List Section) → length (points_after f q s h ss) ≡ length ss
+points_length f q s h [] = refl
+points_length f q s h (x ∷ xs) =
+    ap suc (points_length f (q +ℤ x.height) (s +ℤ x.distance) (printed_height f (q +ℤ x.height) (s +ℤ x.distance)) xs)

@@ -4,28 +4,28 @@ use Rattle.numbers.specs.Numbers.{over}
 use Rattle.numbers.specs.Tables.{first_of}
 use Rattle.adjust.specs.declared.Section.{Section}
 use Rattle.adjust.specs.declared.Point.{Point}
-use Rattle.adjust.specs.Sections.{anyOutside, heightInRange}
-use Rattle.adjust.specs.Line.{quarters, wholes, frame_of, sectionPoints}
+use Rattle.adjust.specs.Sections.{any_outside, height_in_range}
+use Rattle.adjust.specs.Line.{quarters, wholes, frame_of, section_points}
 
 -- of sections between two known heights, into a list with so many places
-abbrev pub adjustTests : ℤ → ℤ → List Section → ℕ → List (ℕ × Bool)
-adjustTests start end ss places =
+abbrev pub adjust_tests : ℤ → ℤ → List Section → ℕ → List (ℕ × Bool)
+adjust_tests start end ss places =
     (11, not (ltb 0 (length ss) && leb (length ss) 64))
     ∷ (13, ltb places (length ss))
-    ∷ (12, anyOutside true ss)
-    ∷ (5, not (heightInRange start && heightInRange end)) ∷ []
+    ∷ (12, any_outside true ss)
+    ∷ (5, not (height_in_range start && height_in_range end)) ∷ []
 
 -- document 01's order of these numbers: 11, 13, 12, 5
-abbrev pub adjustRank : ℕ → ℕ
-adjustRank n = cond (eqb n 11) 1 (cond (eqb n 13) 2 (cond (eqb n 12) 3 (cond (eqb n 5) 4 5)))
+abbrev pub adjust_rank : ℕ → ℕ
+adjust_rank n = cond (eqb n 11) 1 (cond (eqb n 13) 2 (cond (eqb n 12) 3 (cond (eqb n 5) 4 5)))
 
-unfoldable pub adjustRefusal : ℤ → ℤ → List Section → ℕ → ℕ
-adjustRefusal start end ss places = first_of (adjustTests start end ss places)
+unfoldable pub adjust_refusal : ℤ → ℤ → List Section → ℕ → ℕ
+adjust_refusal start end ss places = first_of (adjust_tests start end ss places)
 
 -- one height a section, whatever W and L are
-abbrev pub adjustedHeights : ℤ → ℤ → List Section → List ℤ
-adjustedHeights start end ss = map (λ (p : Point). p.height) (sectionPoints (frame_of quarters wholes start end ss) ss)
+abbrev pub adjusted_heights : ℤ → ℤ → List Section → List ℤ
+adjusted_heights start end ss = map (λ (p : Point). p.height) (section_points (frame_of quarters wholes start end ss) ss)
 
 -- the height list after the call: untouched where it is refused, its further places kept where it is taken
-unfoldable pub heightsAfter : ℤ → ℤ → List Section → List ℤ → List ℤ
-heightsAfter start end ss hs = cond (eqb (adjustRefusal start end ss (length hs)) 0) (over (adjustedHeights start end ss) hs) hs
+unfoldable pub heights_after : ℤ → ℤ → List Section → List ℤ → List ℤ
+heights_after start end ss hs = cond (eqb (adjust_refusal start end ss (length hs)) 0) (over (adjusted_heights start end ss) hs) hs

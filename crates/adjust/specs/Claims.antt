@@ -1,18 +1,18 @@
 -- What is promised of the points of a line: between two known heights (demand 3 of document 01), in any units, and of a spur (document 02, W-202).
 use Rattle.std.specs.Prelude.{◌≡◌, List, [], ◌∷◌, map, ℕ, ◌*◌, ◌≤◌, ℤ, pos, neg_ℤ, nat_abs, ◌+ℤ◌, ◌-ℤ◌, ◌*ℤ◌}
 use Rattle.numbers.specs.Numbers.{sum, last_of}
-use Rattle.roots.specs.Round.{roundEven}
+use Rattle.roots.specs.Round.{round_even}
 use Rattle.adjust.specs.declared.Section.{Section}
 use Rattle.adjust.specs.declared.Point.{Point}
 use Rattle.adjust.specs.declared.Frame.{Frame}
-use Rattle.adjust.specs.Line.{exactTop}
+use Rattle.adjust.specs.Line.{exact_top}
 
 -- each printed height lies within half a print unit of the exact one, and each correction within one print unit of the exact share,
 -- −W × R / L: point by point with the sections, at running sums q and s
 pub data Near (f : Frame) : ℤ → ℤ → List Section → List Point → Type 0 where
-  no-section : {q s : ℤ} → Near f q s [] []
-  next-section : {q s : ℤ} {x : Section} {p : Point} {xs : List Section} {ps : List Point}
-      → 2 * nat_abs (f.units *ℤ f.total *ℤ p.height -ℤ exactTop f (q +ℤ x.height) (s +ℤ x.distance)) ≤ nat_abs (f.units *ℤ f.total)
+  no_section : {q s : ℤ} → Near f q s [] []
+  next_section : {q s : ℤ} {x : Section} {p : Point} {xs : List Section} {ps : List Point}
+      → 2 * nat_abs (f.units *ℤ f.total *ℤ p.height -ℤ exact_top f (q +ℤ x.height) (s +ℤ x.distance)) ≤ nat_abs (f.units *ℤ f.total)
       → nat_abs (p.correction *ℤ f.total +ℤ f.prints *ℤ f.closure *ℤ x.distance) ≤ nat_abs (f.units *ℤ f.total)
       → Near f (q +ℤ x.height) (s +ℤ x.distance) xs ps
       → Near f q s (x ∷ xs) (p ∷ ps)
@@ -20,18 +20,18 @@ pub data Near (f : Frame) : ℤ → ℤ → List Section → List Point → Type
 abbrev pub corrections : List Point → ℤ
 corrections ps = sum (map (λ (p : Point). p.correction) ps)
 
-abbrev pub lastHeight : ℤ → List Point → ℤ
-lastHeight h ps = last_of h (map (λ (p : Point). p.height) ps)
+abbrev pub last_height : ℤ → List Point → ℤ
+last_height h ps = last_of h (map (λ (p : Point). p.height) ps)
 
 -- a spur's heights, 'start plus running Q, rounded to even': after the running sum q in these units to a millimetre, the start's height in it
-abbrev pub rawHeights : ℕ → ℤ → List Section → List ℤ
-rawHeights units q [] = []
-rawHeights units q (x ∷ xs) = roundEven (q +ℤ x.height) units ∷ rawHeights units (q +ℤ x.height) xs
+abbrev pub raw_heights : ℕ → ℤ → List Section → List ℤ
+raw_heights units q [] = []
+raw_heights units q (x ∷ xs) = round_even (q +ℤ x.height) units ∷ raw_heights units (q +ℤ x.height) xs
 
 -- the points after the start, of the sections ss up to the known height `end`
 pub record Sound (f : Frame) (end : ℤ) (ss : List Section) (ps : List Point) : Type 0 where
   -- the corrections use up the closure
-  pub used-up : corrections ps ≡ neg_ℤ (f.prints *ℤ f.closure)
+  pub used_up : corrections ps ≡ neg_ℤ (f.prints *ℤ f.closure)
   -- the last height is the known one, in print units
-  pub last : lastHeight (f.prints *ℤ f.start) ps ≡ f.prints *ℤ end
+  pub last : last_height (f.prints *ℤ f.start) ps ≡ f.prints *ℤ end
   pub near : Near f (pos 0) (pos 0) ss ps

@@ -8,26 +8,26 @@ use Rattle.adjust.specs.declared.LineTotals.{LineTotals}
 use Rattle.adjust.specs.declared.LineTotals.TheVariants.{Totalled, NotTotalled}
 use Rattle.adjust.specs.declared.LineSummary.TheVariants.{Adjusted, NotAdjusted}
 use Rattle.adjust.specs.declared.LineFigures.{LineFigures}
-use Rattle.adjust.specs.Sections.{misfit, heightInRange}
+use Rattle.adjust.specs.Sections.{misfit, height_in_range}
 use Rattle.adjust.specs.Line.{quarters, totals, Closing, closing}
 
-abbrev pub noPoint : Point
-noPoint = record { number = pos 0; distance = pos 0; correction = pos 0; height = pos 0 }
+abbrev pub no_point : Point
+no_point = record { number = pos 0; distance = pos 0; correction = pos 0; height = pos 0 }
 
 -- one to 64 sections in the wider range, between heights in theirs
-unfoldable pub figuresFit : ℤ → ℤ → List Section → Bool
-figuresFit start end ss = ltb 0 (length ss) && not (misfit ss) && heightInRange start && heightInRange end
+unfoldable pub figures_fit : ℤ → ℤ → List Section → Bool
+figures_fit start end ss = ltb 0 (length ss) && not (misfit ss) && height_in_range start && height_in_range end
 
-unfoldable pub lineTotals : ℤ → ℤ → List Section → LineTotals
-lineTotals start end ss = cond (figuresFit start end ss) (Totalled (totals quarters start end ss)) NotTotalled
+unfoldable pub line_totals : ℤ → ℤ → List Section → LineTotals
+line_totals start end ss = cond (figures_fit start end ss) (Totalled (totals quarters start end ss)) NotTotalled
 
 -- a closing, its points in an array
-abbrev pub adjustedOf : Closing → LineFigures
-adjustedOf c = record { answer = Adjusted c.summary; points = filled noPoint 65 c.points }
+abbrev pub adjusted_of : Closing → LineFigures
+adjusted_of c = record { answer = Adjusted c.summary; points = filled no_point 65 c.points }
 
 -- of a line that is not adjusted the points beside the answer are none
-abbrev pub notAdjusted : LineFigures
-notAdjusted = record { answer = NotAdjusted; points = filled noPoint 65 [] }
+abbrev pub not_adjusted : LineFigures
+not_adjusted = record { answer = NotAdjusted; points = filled no_point 65 [] }
 
-unfoldable pub lineFigures : Opening → ℤ → List Section → LineFigures
-lineFigures o end ss = cond (figuresFit o.start.height end ss) (adjustedOf (closing o end ss)) notAdjusted
+unfoldable pub line_figures : Opening → ℤ → List Section → LineFigures
+line_figures o end ss = cond (figures_fit o.start.height end ss) (adjusted_of (closing o end ss)) not_adjusted

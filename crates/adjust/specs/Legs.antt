@@ -6,24 +6,24 @@ use Rattle.adjust.specs.declared.Sections.{Sections}
 use Rattle.adjust.specs.declared.entry.Leg.{Leg}
 
 -- a leg is a section under no number and with no discrepancy
-abbrev pub legSection : Leg → Section
-legSection x = record { number = pos 0; height = x.height; distance = x.distance; discrepancy = pos 0 }
+abbrev pub leg_section : Leg → Section
+leg_section x = record { number = pos 0; height = x.height; distance = x.distance; discrepancy = pos 0 }
 
-abbrev pub legSections : List Leg → List Section
-legSections xs = map legSection xs
+abbrev pub leg_sections : List Leg → List Section
+leg_sections xs = map leg_section xs
 
 -- ---- on the way from the lent list to the arrays
 
-abbrev pub noLeg : Leg
-noLeg = record { height = pos 0; distance = pos 0 }
+abbrev pub no_leg : Leg
+no_leg = record { height = pos 0; distance = pos 0 }
 
 -- an array with the first legs of a list, zeros behind them
 abbrev pub gathered : List Leg → ℕ → List Leg
-gathered xs count = filled noLeg 64 (take count xs)
+gathered xs count = filled no_leg 64 (take count xs)
 
 -- an array of legs in the arrays of sections, `count` of which count
-abbrev pub legTable : List Leg → ℕ → Sections
-legTable xs count =
+abbrev pub leg_table : List Leg → ℕ → Sections
+leg_table xs count =
     record {
       count = count;
       numbers = replicate 64 (pos 0);

@@ -2,7 +2,7 @@
 use Rattle.std.specs.Prelude.{cond, not, ◌||◌, List, [], ◌∷◌, map, ℕ, ◌*◌, length, ltb, ℤ, pos, nat_abs, ◌+ℤ◌, ◌-ℤ◌, ◌*ℤ◌}
 use Rattle.std.specs.Int.Signed.{le_z}
 use Rattle.numbers.specs.Numbers.{sum}
-use Rattle.roots.specs.Round.{roundEven}
+use Rattle.roots.specs.Round.{round_even}
 use Rattle.adjust.specs.declared.Opening.{Opening}
 use Rattle.adjust.specs.declared.Section.{Section}
 use Rattle.adjust.specs.declared.Point.{Point}
@@ -10,7 +10,7 @@ use Rattle.adjust.specs.declared.Totals.{Totals}
 use Rattle.adjust.specs.declared.Summary.{Summary}
 use Rattle.adjust.specs.declared.Frame.{Frame}
 use Rattle.adjust.specs.declared.terms.Terms.{Terms}
-use Rattle.adjust.specs.Terms.{termsOf}
+use Rattle.adjust.specs.Terms.{terms_of}
 
 -- the base's units to a millimetre: Q and W are in quarter mm, printed heights in whole mm
 abbrev pub quarters : ℤ
@@ -20,23 +20,23 @@ abbrev pub wholes : ℤ
 wholes = pos 1
 
 -- L, half dm
-abbrev pub lineLength : List Section → ℤ
-lineLength ss = sum (map (λ (x : Section). x.distance) ss)
+abbrev pub line_length : List Section → ℤ
+line_length ss = sum (map (λ (x : Section). x.distance) ss)
 
 -- ΣQ, in the units of Q
-abbrev pub lineHeight : List Section → ℤ
-lineHeight ss = sum (map (λ (x : Section). x.height) ss)
+abbrev pub line_height : List Section → ℤ
+line_height ss = sum (map (λ (x : Section). x.height) ss)
 
 -- W, in the units of Q, of the sections between the known heights `start` and `end`, mm
 abbrev pub closure : ℤ → ℤ → ℤ → List Section → ℤ
-closure units start end ss = units *ℤ start +ℤ lineHeight ss -ℤ units *ℤ end
+closure units start end ss = units *ℤ start +ℤ line_height ss -ℤ units *ℤ end
 
 abbrev pub totals : ℤ → ℤ → ℤ → List Section → Totals
-totals units start end ss = record { closure = closure units start end ss; distance = lineLength ss }
+totals units start end ss = record { closure = closure units start end ss; distance = line_length ss }
 
 -- W and L of a line by its class: where the end is not known, W is 0 (document 02, W-202)
-abbrev pub totalsBy : Terms → Totals → Totals
-totalsBy terms t = record { closure = cond terms.tied t.closure (pos 0); distance = t.distance }
+abbrev pub totals_by : Terms → Totals → Totals
+totals_by terms t = record { closure = cond terms.tied t.closure (pos 0); distance = t.distance }
 
 -- ---- heights
 
@@ -49,45 +49,45 @@ abbrev pub frame_of : ℤ → ℤ → ℤ → ℤ → List Section → Frame
 frame_of units prints start end ss = frame units prints start (totals units start end ss)
 
 -- of a line opened as o, up to its end height, which is a placeholder where the end is not known
-abbrev pub lineFrame : Opening → ℤ → List Section → Frame
-lineFrame o end ss = frame quarters wholes o.start.height (totalsBy (termsOf o.class) (totals quarters o.start.height end ss))
+abbrev pub line_frame : Opening → ℤ → List Section → Frame
+line_frame o end ss = frame quarters wholes o.start.height (totals_by (terms_of o.class) (totals quarters o.start.height end ss))
 
--- the exact height at running sums q (of Q) and s (of R) is exactTop / (units × total) print units
-abbrev pub exactTop : Frame → ℤ → ℤ → ℤ
-exactTop f q s = f.prints *ℤ (f.units *ℤ f.start *ℤ f.total +ℤ q *ℤ f.total -ℤ f.closure *ℤ s)
+-- the exact height at running sums q (of Q) and s (of R) is exact_top / (units × total) print units
+abbrev pub exact_top : Frame → ℤ → ℤ → ℤ
+exact_top f q s = f.prints *ℤ (f.units *ℤ f.start *ℤ f.total +ℤ q *ℤ f.total -ℤ f.closure *ℤ s)
 
-abbrev pub printedHeight : Frame → ℤ → ℤ → ℤ
-printedHeight f q s = roundEven (exactTop f q s) (nat_abs (f.units *ℤ f.total))
+abbrev pub printed_height : Frame → ℤ → ℤ → ℤ
+printed_height f q s = round_even (exact_top f q s) (nat_abs (f.units *ℤ f.total))
 
 -- the point at the end of the section x, after one at running sums q and s whose printed height is h; corrections are in 1 / (units × prints) mm
-abbrev pub pointAfter : Frame → ℤ → ℤ → ℤ → Section → Point
-pointAfter f q s h x =
-    let g : ℤ = printedHeight f (q +ℤ x.height) (s +ℤ x.distance) in
+abbrev pub point_after : Frame → ℤ → ℤ → ℤ → Section → Point
+point_after f q s h x =
+    let g : ℤ = printed_height f (q +ℤ x.height) (s +ℤ x.distance) in
     record { number = x.number; distance = s +ℤ x.distance; correction = f.units *ℤ (g -ℤ h) -ℤ f.prints *ℤ x.height; height = g }
 
 -- the points of the sections after one at running sums q and s whose printed height is h
-abbrev pub pointsAfter : Frame → ℤ → ℤ → ℤ → List Section → List Point
-pointsAfter f q s h [] = []
-pointsAfter f q s h (x ∷ xs) =
-    pointAfter f q s h x ∷ pointsAfter f (q +ℤ x.height) (s +ℤ x.distance) (printedHeight f (q +ℤ x.height) (s +ℤ x.distance)) xs
+abbrev pub points_after : Frame → ℤ → ℤ → ℤ → List Section → List Point
+points_after f q s h [] = []
+points_after f q s h (x ∷ xs) =
+    point_after f q s h x ∷ points_after f (q +ℤ x.height) (s +ℤ x.distance) (printed_height f (q +ℤ x.height) (s +ℤ x.distance)) xs
 
 -- one point a section
-abbrev pub sectionPoints : Frame → List Section → List Point
-sectionPoints f ss = pointsAfter f (pos 0) (pos 0) (f.prints *ℤ f.start) ss
+abbrev pub section_points : Frame → List Section → List Point
+section_points f ss = points_after f (pos 0) (pos 0) (f.prints *ℤ f.start) ss
 
 -- the start, under its number, and the sections' points
 abbrev pub points : Frame → ℤ → List Section → List Point
-points f number ss = record { number = number; distance = pos 0; correction = pos 0; height = f.prints *ℤ f.start } ∷ sectionPoints f ss
+points f number ss = record { number = number; distance = pos 0; correction = pos 0; height = f.prints *ℤ f.start } ∷ section_points f ss
 
 -- ---- the accidental error
 
 -- t, hundredths of mm² per km. D is in half mm or in equal parts of it, and `squared` is the square of their number: 1 for half mm
 abbrev pub accidental : ℕ → Section → ℤ
-accidental squared x = roundEven (pos 500000 *ℤ (x.discrepancy *ℤ x.discrepancy)) (squared * nat_abs x.distance)
+accidental squared x = round_even (pos 500000 *ℤ (x.discrepancy *ℤ x.discrepancy)) (squared * nat_abs x.distance)
 
 -- T: 0 where sections are levelled one way
-abbrev pub accidentalSum : Terms → ℕ → List Section → ℤ
-accidentalSum terms squared ss = cond terms.double (sum (map (accidental squared) ss)) (pos 0)
+abbrev pub accidental_sum : Terms → ℕ → List Section → ℤ
+accidental_sum terms squared ss = cond terms.double (sum (map (accidental squared) ss)) (pos 0)
 
 -- 0 below 20 sections and where they are levelled one way; 1 for a T within its limit, 2 above
 abbrev pub verdict : Terms → ℕ → ℤ → ℕ
@@ -101,10 +101,10 @@ pub record Closing : Type 0 where
 
 abbrev pub closing : Opening → ℤ → List Section → Closing
 closing o end ss =
-    let f : Frame = lineFrame o end ss in
-    let terms : Terms = termsOf o.class in
+    let f : Frame = line_frame o end ss in
+    let terms : Terms = terms_of o.class in
     -- D is in half mm
-    let t : ℤ = accidentalSum terms 1 ss in
+    let t : ℤ = accidental_sum terms 1 ss in
     record {
       -- W as printed, in the corrections' unit
       summary = record { closure = f.prints *ℤ f.closure; distance = f.total; count = length ss; accidental = t; verdict = verdict terms (length ss) t };

@@ -3,13 +3,13 @@ use Rattle.std.specs.Prelude.{Bool, false, not, cond, ◌&&◌, ◌||◌, List, 
 use Rattle.numbers.specs.Numbers.{within, between, any_of, over}
 use Rattle.adjust.specs.declared.Section.{Section}
 use Rattle.adjust.specs.declared.Sections.{Sections}
-use Rattle.adjust.specs.Sizes.{highest, mostQ, mostR, mostD}
+use Rattle.adjust.specs.Sizes.{highest, most_q, most_r, most_d}
 
 -- ---- in arrays
 
 -- the section in place k
-abbrev pub sectionAt : Sections → ℕ → Section
-sectionAt s k =
+abbrev pub section_at : Sections → ℕ → Section
+section_at s k =
     record {
       number = get_or s.numbers k (pos 0);
       height = get_or s.heights k (pos 0);
@@ -18,12 +18,12 @@ sectionAt s k =
     }
 
 -- n sections, from place k on
-unfoldable pub sectionsFrom : Sections → ℕ → ℕ → List Section
-sectionsFrom s k zero = []
-sectionsFrom s k (suc n) = sectionAt s k ∷ sectionsFrom s (k + 1) n
+unfoldable pub sections_from : Sections → ℕ → ℕ → List Section
+sections_from s k zero = []
+sections_from s k (suc n) = section_at s k ∷ sections_from s (k + 1) n
 
-abbrev pub sectionsOf : Sections → List Section
-sectionsOf s = sectionsFrom s 0 s.count
+abbrev pub sections_of : Sections → List Section
+sections_of s = sections_from s 0 s.count
 
 -- the arrays s with the list ss in them
 unfoldable pub holding : Sections → List Section → Sections
@@ -39,26 +39,26 @@ holding s ss =
 -- ---- ranges
 
 -- document 01's range of Q and R in the adjustment call (refusal 12)
-abbrev pub legInRange : Section → Bool
-legInRange x = within x.height 2500000 && between (pos 1) x.distance (pos mostR)
+abbrev pub leg_in_range : Section → Bool
+leg_in_range x = within x.height 2500000 && between (pos 1) x.distance (pos most_r)
 
 -- A wider range, in which all figures of up to 64 sections fit 64 bits. No section of a book made by calls is outside it.
-abbrev pub legFits : Section → Bool
-legFits x = within x.height mostQ && between (pos 1) x.distance (pos mostR)
+abbrev pub leg_fits : Section → Bool
+leg_fits x = within x.height most_q && between (pos 1) x.distance (pos most_r)
 
-abbrev pub sectionFits : Section → Bool
-sectionFits x = legFits x && within x.discrepancy mostD
+abbrev pub section_fits : Section → Bool
+section_fits x = leg_fits x && within x.discrepancy most_d
 
 -- outside document 01's range, or outside the wider one
 abbrev pub outside : Bool → Section → Bool
-outside strict x = not (cond strict (legInRange x) (sectionFits x))
+outside strict x = not (cond strict (leg_in_range x) (section_fits x))
 
 -- a section of which the ranges see all there is
 abbrev pub unnumbered : ℤ → ℤ → ℤ → Section
 unnumbered height distance discrepancy = record { number = pos 0; height = height; distance = distance; discrepancy = discrepancy }
 
-abbrev pub anyOutside : Bool → List Section → Bool
-anyOutside strict ss = any_of (outside strict) ss
+abbrev pub any_outside : Bool → List Section → Bool
+any_outside strict ss = any_of (outside strict) ss
 
 -- the first count sections of lists that hold Q, R and D; the numbers are not among them
 abbrev pub lent : ℕ → List ℤ → List ℤ → List ℤ → Sections
@@ -66,7 +66,7 @@ lent count hs ds es = record { count = count; numbers = []; heights = hs; distan
 
 -- more than 64 sections, or one outside the wider range
 abbrev pub misfit : List Section → Bool
-misfit ss = not (leb (length ss) 64) || anyOutside false ss
+misfit ss = not (leb (length ss) 64) || any_outside false ss
 
-abbrev pub heightInRange : ℤ → Bool
-heightInRange h = between (neg_ℤ (pos 999999)) h (pos highest)
+abbrev pub height_in_range : ℤ → Bool
+height_in_range h = between (neg_ℤ (pos 999999)) h (pos highest)

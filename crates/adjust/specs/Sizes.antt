@@ -6,44 +6,44 @@ abbrev pub highest : ℕ
 highest = 8999999
 
 -- of a section: Q in quarter mm, R in half dm, D in half mm, and t. No section of a book made by calls has more
-abbrev pub mostQ : ℕ
-mostQ = 50000000
+abbrev pub most_q : ℕ
+most_q = 50000000
 
-abbrev pub mostR : ℕ
-mostR = 1200000
+abbrev pub most_r : ℕ
+most_r = 1200000
 
-abbrev pub mostD : ℕ
-mostD = 100000
+abbrev pub most_d : ℕ
+most_d = 100000
 
-abbrev pub mostT : ℕ
-mostT = 500000 * (mostD * mostD) + 1
+abbrev pub most_t : ℕ
+most_t = 500000 * (most_d * most_d) + 1
 
 -- units to a millimetre, of Q and W and of printed heights, and the square of the parts of half a millimetre that D is in: documents 01 and 02 ask for no more
-abbrev pub mostUnits : ℕ
-mostUnits = 40
+abbrev pub most_units : ℕ
+most_units = 40
 
-abbrev pub mostPrints : ℕ
-mostPrints = 10
+abbrev pub most_prints : ℕ
+most_prints = 10
 
-abbrev pub mostSquared : ℕ
-mostSquared = 100
+abbrev pub most_squared : ℕ
+most_squared = 100
 
 -- what a class of line allows of T for each section: none allows as much
-abbrev pub mostAllowed : ℕ
-mostAllowed = 1000000
+abbrev pub most_allowed : ℕ
+most_allowed = 1000000
 
 -- of a line: T, ΣQ, L, W and a printed height
-abbrev pub mostSumT : ℕ
-mostSumT = mostT * 64
+abbrev pub most_sum_t : ℕ
+most_sum_t = most_t * 64
 
-abbrev pub mostSumQ : ℕ
-mostSumQ = mostQ * 64
+abbrev pub most_sum_q : ℕ
+most_sum_q = most_q * 64
 
-abbrev pub mostL : ℕ
-mostL = mostR * 64
+abbrev pub most_l : ℕ
+most_l = most_r * 64
 
-abbrev pub mostW : ℕ
-mostW = mostUnits * highest + mostSumQ + mostUnits * highest
+abbrev pub most_w : ℕ
+most_w = most_units * highest + most_sum_q + most_units * highest
 
-abbrev pub mostPrinted : ℕ
-mostPrinted = mostPrints * (mostUnits * highest + mostSumQ + mostW)
+abbrev pub most_printed : ℕ
+most_printed = most_prints * (most_units * highest + most_sum_q + most_w)

@@ -1,5 +1,5 @@
 -- What a class of line sets (document 01, 'Runs, sections and the standing list' and 'Closure, corrections, heights'; for spurs document 02, W-202): a row for each class. `Terms` in the code
--- says what each field is, and its unit; 20,000 half dm are a kilometre. Nothing else in the rules goes by the class, but a station's limits (`limitsOf`), by its order.
+-- says what each field is, and its unit; 20,000 half dm are a kilometre. Nothing else in the rules goes by the class, but a station's limits (`limits_of`), by its order.
 use Rattle.std.specs.Prelude.{true, false, pos}
 use Rattle.station.specs.declared.Order.{Order}
 use Rattle.station.specs.declared.Order.TheVariants as Order
@@ -12,9 +12,9 @@ order_of Third = Order.Third
 order_of Fourth = Order.Fourth
 order_of Spur = Order.Fourth
 
-abbrev pub termsOf : Class → Terms
+abbrev pub terms_of : Class → Terms
 -- levelled out and back; D and W within 12 √km; L at most 150 km, for a loop 200 km; T at most 3,600 × n
-termsOf Third =
+terms_of Third =
     record {
       double = true;
       tied = true;
@@ -25,7 +25,7 @@ termsOf Third =
       accidental = pos 3600;
     }
 -- levelled one way; W within 20 √km; L at most 80 km, for a loop 100 km. Sections of one run have no D and no T: `apart` decides nothing, and there is no verdict
-termsOf Fourth =
+terms_of Fourth =
     record {
       double = false;
       tied = true;
@@ -36,7 +36,7 @@ termsOf Fourth =
       accidental = pos 0;
     }
 -- levelled out and back to an end that is not known; D within 20 √km; T at most 10,000 × n. There is no closure and no limit of length: `closing`, `longest` and `circuit` decide nothing, since END on a spur is refused with 41 before 35 and 36
-termsOf Spur =
+terms_of Spur =
     record {
       double = true;
       tied = false;

@@ -3,8 +3,8 @@ ghost use Rattle.std.specs.Prelude.{◌≡◌, map, ◌≤◌, length, take, dro
 ghost use Rattle.numbers.specs.Numbers.{over};
 ghost use Rattle.records.specs.Answers.{number_of, answer_of};
 ghost use Rattle.adjust.specs.declared.Point.{Point};
-ghost use Rattle.adjust.specs.Sections.{sectionsOf};
-ghost use Rattle.adjust.specs.Call.{adjustRefusal, heightsAfter};
+ghost use Rattle.adjust.specs.Sections.{sections_of};
+ghost use Rattle.adjust.specs.Call.{adjust_refusal, heights_after};
 
 use super::heights::{frame_of, points_of};
 use super::sums::totals_between;
@@ -15,7 +15,7 @@ use records::Answer;
 // The refusal of the call for a height list of so many places: 11, 13, 12 or 5, or 0.
 #[tactic(auto, using(crate::proofs::Refused::refusals))]
 fn adjust_refusal(start: i64, end: i64, s: Sections, places: usize) -> u8
-    ensures { result ≡ adjustRefusal start end (sectionsOf s) places }
+    ensures { result ≡ adjust_refusal start end (sections_of s) places }
 {
     if s.count == 0 {
         return 11;
@@ -46,11 +46,11 @@ fn put_heights(points: [Point; 65], count: usize, heights: &mut [i64])
 }
 
 // The adjusted heights of the sections between two known heights, one a section, into a lent list.
-#[tactic(auto, using(crate::proofs::Taken::taken), unfolding(crate::specs::Call::heightsAfter))]
+#[tactic(auto, using(crate::proofs::Taken::taken), unfolding(crate::specs::Call::heights_after))]
 pub fn adjust(start: i64, end: i64, s: Sections, heights: &mut [i64]) -> Answer
-    ensures value { (result ≡ answer_of (adjustRefusal start end (sectionsOf s) (length heights.old)))
-        × (heights.new ≡ heightsAfter start end (sectionsOf s) heights.old) }
-    ensures result_value { number_of result ≡ adjustRefusal start end (sectionsOf s) (length heights.old) }
+    ensures value { (result ≡ answer_of (adjust_refusal start end (sections_of s) (length heights.old)))
+        × (heights.new ≡ heights_after start end (sections_of s) heights.old) }
+    ensures result_value { number_of result ≡ adjust_refusal start end (sections_of s) (length heights.old) }
 {
     let code = adjust_refusal(start, end, s, heights.len());
     if code != 0 {

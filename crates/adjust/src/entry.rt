@@ -2,9 +2,9 @@
 // nothing.
 ghost use Rattle.std.specs.Prelude.{◌≡◌, ◌≤◌, min, length};
 ghost use Rattle.records.specs.Answers.{number_of, answer_of};
-ghost use Rattle.adjust.specs.Sections.{sectionsOf};
-ghost use Rattle.adjust.specs.Call.{adjustRefusal, heightsAfter};
-ghost use Rattle.adjust.specs.Legs.{legSections, gathered, legTable};
+ghost use Rattle.adjust.specs.Sections.{sections_of};
+ghost use Rattle.adjust.specs.Call.{adjust_refusal, heights_after};
+ghost use Rattle.adjust.specs.Legs.{leg_sections, gathered, leg_table};
 
 use super::Sections;
 use super::call::adjust;
@@ -47,7 +47,7 @@ fn gather(legs: &[Leg], count: usize) -> [Leg; 64]
 
 // The legs as sections in arrays, under no number and with no discrepancy.
 fn table_of(legs: [Leg; 64], count: usize) -> Sections
-    ensures { result ≡ legTable legs count }
+    ensures { result ≡ leg_table legs count }
 {
     let zeros = [0; 64];
     let mut heights = zeros;
@@ -77,8 +77,8 @@ pub fn number_of(a: Answer) -> u8
 
 // The call on legs by value, of which `count` are lent: more than 64 are refused, whatever the table holds.
 fn adjust_legs(legs: [Leg; 64], count: usize, start: i64, end: i64, heights: &mut [i64]) -> u8
-    ensures { (result ≡ number_of (answer_of (adjustRefusal start end (sectionsOf (legTable legs count)) (length heights.old))))
-        × (heights.new ≡ heightsAfter start end (sectionsOf (legTable legs count)) heights.old) }
+    ensures { (result ≡ number_of (answer_of (adjust_refusal start end (sections_of (leg_table legs count)) (length heights.old))))
+        × (heights.new ≡ heights_after start end (sections_of (leg_table legs count)) heights.old) }
 {
     number_of(adjust(start, end, table_of(legs, count), heights))
 }
@@ -87,8 +87,8 @@ fn adjust_legs(legs: [Leg; 64], count: usize, start: i64, end: i64, heights: &mu
 // call that is taken.
 #[tactic(auto, using(crate::proofs::Legs::gathers))]
 pub fn level_adjust(legs: &[Leg], start: i64, end: i64, heights: &mut [i64]) -> u8
-    ensures { (result ≡ number_of (answer_of (adjustRefusal start end (legSections legs.now) (length heights.old))))
-        × (heights.new ≡ heightsAfter start end (legSections legs.now) heights.old) }
+    ensures { (result ≡ number_of (answer_of (adjust_refusal start end (leg_sections legs.now) (length heights.old))))
+        × (heights.new ≡ heights_after start end (leg_sections legs.now) heights.old) }
 {
     let count = legs.len();
     let table = gather(legs, capped(count));

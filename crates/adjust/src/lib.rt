@@ -3,8 +3,8 @@
 
 ghost use Rattle.std.specs.Prelude.{◌≡◌, []};
 ghost use Rattle.numbers.specs.Numbers.{filled};
-ghost use Rattle.adjust.specs.Sections.{sectionsOf, heightInRange};
-ghost use Rattle.adjust.specs.Frames.{noPoint, figuresFit, lineTotals, adjustedOf, lineFigures};
+ghost use Rattle.adjust.specs.Sections.{sections_of, height_in_range};
+ghost use Rattle.adjust.specs.Frames.{no_point, figures_fit, line_totals, adjusted_of, line_figures};
 ghost use Rattle.adjust.specs.Line.{closing};
 ghost use Rattle.adjust.specs.code.Bounds.{Between, Fitted};
 
@@ -124,24 +124,24 @@ pub enum LineTotals {
 
 // Whether a height is in document 01's range.
 pub fn height_in_range(h: i64) -> bool
-    ensures { result ≡ heightInRange h }
+    ensures { result ≡ height_in_range h }
 {
     (-999999 <= h) & (h <= 8999999)
 }
 
 // Whether there are 1 to 64 sections in the wider range, between heights in theirs: then all figures fit 64 bits.
-#[tactic(auto, using(crate::proofs::Lent::fitting_tests), unfolding(crate::specs::Frames::figuresFit))]
+#[tactic(auto, using(crate::proofs::Lent::fitting_tests), unfolding(crate::specs::Frames::figures_fit))]
 fn figures_fit(start: i64, end: i64, s: Sections) -> bool
-    ensures { result ≡ figuresFit start end (sectionsOf s) }
+    ensures { result ≡ figures_fit start end (sections_of s) }
 {
     let misfit = table::misfits(s.count, &s.heights, &s.distances, &s.discrepancies);
     (0 < s.count) & !misfit & height_in_range(start) & height_in_range(end)
 }
 
 // W and L of the sections between two known heights, where `figures_fit`.
-#[tactic(auto, using(crate::proofs::Sized::fits), unfolding(crate::specs::Frames::lineTotals))]
+#[tactic(auto, using(crate::proofs::Sized::fits), unfolding(crate::specs::Frames::line_totals))]
 pub fn totals_of(start: i64, end: i64, s: Sections) -> LineTotals
-    ensures { result ≡ lineTotals start end (sectionsOf s) }
+    ensures { result ≡ line_totals start end (sections_of s) }
 {
     if figures_fit(start, end, s) {
         return LineTotals::Totalled(sums::totals_between(QUARTERS, start, end, s));
@@ -152,7 +152,7 @@ pub fn totals_of(start: i64, end: i64, s: Sections) -> LineTotals
 // The closing of figures that fit.
 fn closing_of(opening: Opening, end: i64, s: Sections) -> LineFigures
     requires { Between opening.start.height end s × Fitted s }
-    ensures { result ≡ adjustedOf (closing opening end (sectionsOf s)) }
+    ensures { result ≡ adjusted_of (closing opening end (sections_of s)) }
 {
     let class = opening.class;
     let start = opening.start;
@@ -176,9 +176,9 @@ fn closing_of(opening: Opening, end: i64, s: Sections) -> LineFigures
 }
 
 // What closing the line gives, where `figures_fit`: W, L, n, T, the verdict and the points. Of a spur `end` is only held to its range.
-#[tactic(auto, using(crate::proofs::Sized::fits), unfolding(crate::specs::Frames::lineFigures))]
+#[tactic(auto, using(crate::proofs::Sized::fits), unfolding(crate::specs::Frames::line_figures))]
 pub fn adjusted_line(opening: Opening, end: i64, s: Sections) -> LineFigures
-    ensures { result ≡ lineFigures opening end (sectionsOf s) }
+    ensures { result ≡ line_figures opening end (sections_of s) }
 {
     if figures_fit(opening.start.height, end, s) {
         return closing_of(opening, end, s);
@@ -192,7 +192,7 @@ pub fn adjusted_line(opening: Opening, end: i64, s: Sections) -> LineFigures
 
 // No points: zeros in every place.
 pub fn no_points() -> [Point; 65]
-    ensures { result ≡ filled noPoint 65 [] }
+    ensures { result ≡ filled no_point 65 [] }
 {
     let none = Point {
         number: 0,

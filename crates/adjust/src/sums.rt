@@ -1,8 +1,8 @@
 // The sums of Q and R over the sections of a line, and W.
 ghost use Rattle.std.specs.Prelude.{◌≡◌, ◌+ℤ◌};
-ghost use Rattle.adjust.specs.Sections.{sectionsOf};
-ghost use Rattle.adjust.specs.Line.{lineHeight, lineLength, totals, totalsBy};
-ghost use Rattle.adjust.specs.Sizes.{mostUnits};
+ghost use Rattle.adjust.specs.Sections.{sections_of};
+ghost use Rattle.adjust.specs.Line.{line_height, line_length, totals, totals_by};
+ghost use Rattle.adjust.specs.Sizes.{most_units};
 ghost use Rattle.adjust.specs.code.Bounds.{OneTo, Fits, Between, LegBounds, Summed};
 
 use super::table::section_at;
@@ -27,7 +27,7 @@ fn with_section(t: Sums, x: Section) -> Sums
 
 fn sums_of(s: Sections) -> Sums
     requires { Fits s }
-    ensures { result ≡ record { height = lineHeight (sectionsOf s); distance = lineLength (sectionsOf s) } }
+    ensures { result ≡ record { height = line_height (sections_of s); distance = line_length (sections_of s) } }
 {
     let count = s.count;
     let mut t = Sums {
@@ -42,8 +42,8 @@ fn sums_of(s: Sections) -> Sums
 
 // W and L of the sections between two known heights; a millimetre is so many units of Q.
 pub(crate) fn totals_between(units: i64, start: i64, end: i64, s: Sections) -> Totals
-    requires { OneTo mostUnits units × Between start end s }
-    ensures { result ≡ totals units start end (sectionsOf s) }
+    requires { OneTo most_units units × Between start end s }
+    ensures { result ≡ totals units start end (sections_of s) }
 {
     let t = sums_of(s);
     Totals {
@@ -54,7 +54,7 @@ pub(crate) fn totals_between(units: i64, start: i64, end: i64, s: Sections) -> T
 
 // The same by the class of line: where the end is not known, W is 0.
 pub(crate) fn totals_by(terms: Terms, t: Totals) -> Totals
-    ensures { result ≡ totalsBy terms t }
+    ensures { result ≡ totals_by terms t }
 {
     if terms.tied {
         return t;

@@ -1,6 +1,6 @@
 // The sections of a line in arrays, read one by one.
 ghost use Rattle.std.specs.Prelude.{◌≡◌, ◌<◌, ◌≤◌, length};
-ghost use Rattle.adjust.specs.Sections.{sectionAt, sectionsOf, unnumbered, lent, outside, anyOutside, misfit};
+ghost use Rattle.adjust.specs.Sections.{section_at, sections_of, unnumbered, lent, outside, any_outside, misfit};
 
 use super::{Section, Sections};
 use roots::limits::magnitude;
@@ -8,7 +8,7 @@ use roots::limits::magnitude;
 // The section in place k.
 pub(crate) fn section_at(s: Sections, k: usize) -> Section
     requires { k < 64 }
-    ensures { result ≡ sectionAt s k }
+    ensures { result ≡ section_at s k }
 {
     Section {
         number: s.numbers[k],
@@ -40,7 +40,7 @@ pub(crate) fn any_outside<'a>(
     discrepancies: &'a [i64],
 ) -> bool
     requires { (count ≤ length heights.now) × ((count ≤ length distances.now) × (count ≤ length discrepancies.now)) }
-    ensures { result ≡ anyOutside strict (sectionsOf (lent count heights.now distances.now discrepancies.now)) }
+    ensures { result ≡ any_outside strict (sections_of (lent count heights.now distances.now discrepancies.now)) }
 {
     for k in 0..count {
         if is_outside(strict, heights[k], distances[k], discrepancies[k]) {
@@ -58,7 +58,7 @@ pub fn misfits<'a>(
     distances: &'a [i64; 64],
     discrepancies: &'a [i64; 64],
 ) -> bool
-    ensures { result ≡ misfit (sectionsOf (lent count heights.now distances.now discrepancies.now)) }
+    ensures { result ≡ misfit (sections_of (lent count heights.now distances.now discrepancies.now)) }
 {
     if 64 < count {
         return true;

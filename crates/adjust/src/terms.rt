@@ -1,6 +1,6 @@
 // The classes of line, and what each sets: the one table by which the rules go, but for a station's limits (`station::judge`), which are those of its order.
 ghost use Rattle.std.specs.Prelude.{◌≡◌};
-ghost use Rattle.adjust.specs.Terms.{order_of, termsOf};
+ghost use Rattle.adjust.specs.Terms.{order_of, terms_of};
 
 use station::Order;
 
@@ -51,7 +51,7 @@ pub fn order_of(class: Class) -> Order
 
 // The table.
 pub fn terms_of(class: Class) -> Terms
-    ensures { result ≡ termsOf class }
+    ensures { result ≡ terms_of class }
 {
     match class {
         Class::Third => Terms {

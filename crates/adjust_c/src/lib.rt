@@ -3,8 +3,8 @@
 
 ghost use Rattle.std.specs.Prelude.{◌≡◌, length};
 ghost use Rattle.records.specs.Answers.{number_of, answer_of};
-ghost use Rattle.adjust.specs.Call.{adjustRefusal, heightsAfter};
-ghost use Rattle.adjust.specs.Legs.{legSections};
+ghost use Rattle.adjust.specs.Call.{adjust_refusal, heights_after};
+ghost use Rattle.adjust.specs.Legs.{leg_sections};
 
 use adjust::entry::Leg;
 
@@ -12,8 +12,8 @@ use adjust::entry::Leg;
 // call that is taken.
 #[unsafe(no_mangle)]
 pub extern "C" fn level_adjust(legs: &[Leg], start: i64, end: i64, heights: &mut [i64]) -> u8
-    ensures { (result ≡ number_of (answer_of (adjustRefusal start end (legSections legs.now) (length heights.old))))
-        × (heights.new ≡ heightsAfter start end (legSections legs.now) heights.old) }
+    ensures { (result ≡ number_of (answer_of (adjust_refusal start end (leg_sections legs.now) (length heights.old))))
+        × (heights.new ≡ heights_after start end (leg_sections legs.now) heights.old) }
 {
     adjust::entry::level_adjust(legs, start, end, heights)
 }

@@ -1,14 +1,14 @@
 // The calls of a book. Each gives its answer and the book after it; a refused call leaves the very book.
 ghost use Rattle.std.specs.Prelude.{◌≡◌, true, []};
 ghost use Rattle.records.specs.Answers.{answer_of};
-ghost use Rattle.rules.specs.Rules.{open-line, station, end-run, drop-run, drop-section, close-line, open-spur, close-spur, collimation};
+ghost use Rattle.rules.specs.Rules.{open_line, station, end_run, drop_run, drop_section, close_line, open_spur, close_spur, collimation};
 ghost use Rattle.numbers.specs.Numbers.{filled};
-ghost use Rattle.adjust.specs.Sections.{sectionsOf};
+ghost use Rattle.adjust.specs.Sections.{sections_of};
 ghost use Rattle.adjust.specs.Line.{closing};
-ghost use Rattle.adjust.specs.Frames.{noPoint, figuresFit};
+ghost use Rattle.adjust.specs.Frames.{no_point, figures_fit};
 ghost use Rattle.book.specs.declared.CloseAnswer.TheVariants.{NotClosed};
 ghost use Rattle.rules.specs.Records.{call_of};
-ghost use Rattle.book.specs.Calls.{step_of, Answers, closeFigures, Closes, Tells};
+ghost use Rattle.book.specs.Calls.{step_of, Answers, close_figures, Closes, Tells};
 ghost use Rattle.book.specs.code.Changes.{changed, closed_step};
 
 use super::storing::change;
@@ -70,7 +70,7 @@ fn outcome_of(s: Step) -> Outcome
 
 // Open the line: order 3 or 4, instrument 3 for DS3 or 1 for DS1 and DS05, the start's number and its height in mm.
 pub fn open(b: Book, order: i64, instrument: i64, number: i64, height: i64) -> Outcome
-    ensures { Answers b (open-line order instrument number height) result }
+    ensures { Answers b (open_line order instrument number height) result }
 {
     let v = [order, instrument, number, height, 0, 0, 0, 0, 0, 0];
     outcome_of(take(b, Tag::Lin, v))
@@ -78,7 +78,7 @@ pub fn open(b: Book, order: i64, instrument: i64, number: i64, height: i64) -> O
 
 // Open a spur, levelled out and back from the start to an end that is not known: order 4, else as a line.
 pub fn open_spur(b: Book, order: i64, instrument: i64, number: i64, height: i64) -> Outcome
-    ensures { Answers b (open-spur order instrument number height) result }
+    ensures { Answers b (open_spur order instrument number height) result }
 {
     let v = [order, instrument, number, height, 0, 0, 0, 0, 0, 0];
     outcome_of(take(b, Tag::Spr, v))
@@ -109,28 +109,28 @@ pub fn station(b: Book, kb: i64, kf: i64, readings: [[i64; 4]; 2]) -> Outcome
 
 // End the present run on a benchmark.
 pub fn end_run(b: Book, number: i64) -> Outcome
-    ensures { Answers b (end-run number) result }
+    ensures { Answers b (end_run number) result }
 {
     outcome_of(take(b, Tag::Run, [number, 0, 0, 0, 0, 0, 0, 0, 0, 0]))
 }
 
 // Empty the present run.
 pub fn drop_run(b: Book) -> Outcome
-    ensures { Answers b drop-run result }
+    ensures { Answers b drop_run result }
 {
     outcome_of(take(b, Tag::Drr, [0; 10]))
 }
 
 // Empty the present run and what waits for its return.
 pub fn drop_section(b: Book) -> Outcome
-    ensures { Answers b drop-section result }
+    ensures { Answers b drop_section result }
 {
     outcome_of(take(b, Tag::Drs, [0; 10]))
 }
 
 // No figures, but a refusal.
 fn not_closed(code: u8) -> ClosedFigures
-    ensures { result ≡ record { answer = NotClosed code; points = filled noPoint 65 [] } }
+    ensures { result ≡ record { answer = NotClosed code; points = filled no_point 65 [] } }
 {
     let none = adjust::no_points();
     ClosedFigures {
@@ -141,8 +141,8 @@ fn not_closed(code: u8) -> ClosedFigures
 
 // The figures of a line up to its end height, where they fit. Of a spur the end height decides nothing.
 fn figures_up_to(opening: Opening, end: i64, s: Sections) -> ClosedFigures
-    requires { figuresFit opening.start.height end (sectionsOf s) ≡ true }
-    ensures { result ≡ closeFigures 0 (closing opening end (sectionsOf s)) }
+    requires { figures_fit opening.start.height end (sections_of s) ≡ true }
+    ensures { result ≡ close_figures 0 (closing opening end (sections_of s)) }
 {
     let figures = adjust::adjusted_line(opening, end, s);
     let answer = figures.answer;
@@ -158,8 +158,8 @@ fn figures_up_to(opening: Opening, end: i64, s: Sections) -> ClosedFigures
 
 // What a closing answers with this number: the refusal, or where it is 0 the figures of the line up to its end height.
 fn figures_by(number: u8, opening: Opening, end: i64, s: Sections) -> ClosedFigures
-    requires { number ≡ 0 → figuresFit opening.start.height end (sectionsOf s) ≡ true }
-    ensures { result ≡ closeFigures number (closing opening end (sectionsOf s)) }
+    requires { number ≡ 0 → figures_fit opening.start.height end (sections_of s) ≡ true }
+    ensures { result ≡ close_figures number (closing opening end (sections_of s)) }
 {
     if number != 0 {
         return not_closed(number);
@@ -169,7 +169,7 @@ fn figures_by(number: u8, opening: Opening, end: i64, s: Sections) -> ClosedFigu
 
 // The outcome of a closing whose step was s, of the line of b.
 fn closed_by(b: Book, s: Step, end: i64) -> CloseOutcome
-    requires { s.number ≡ 0 → figuresFit b.line.opening.start.height end (sectionsOf b.sections) ≡ true }
+    requires { s.number ≡ 0 → figures_fit b.line.opening.start.height end (sections_of b.sections) ≡ true }
     ensures { result ≡ closed_step b s end }
 {
     let line = b.line;
@@ -188,7 +188,7 @@ fn closed_by(b: Book, s: Step, end: i64) -> CloseOutcome
 
 // Close the line on its last benchmark, whose known height is end.
 pub fn close_line(b: Book, number: i64, end: i64) -> CloseOutcome
-    ensures { Closes b (close-line number end) result }
+    ensures { Closes b (close_line number end) result }
 {
     let s = take(b, Tag::End, [number, end, 0, 0, 0, 0, 0, 0, 0, 0]);
     closed_by(b, s, end)
@@ -196,7 +196,7 @@ pub fn close_line(b: Book, number: i64, end: i64) -> CloseOutcome
 
 // Close the spur on its last benchmark. W is 0, and the heights are start plus running Q, rounded to even.
 pub fn close_spur(b: Book, number: i64) -> CloseOutcome
-    ensures { Closes b (close-spur number) result }
+    ensures { Closes b (close_spur number) result }
 {
     let s = take(b, Tag::Fin, [number, 0, 0, 0, 0, 0, 0, 0, 0, 0]);
     closed_by(b, s, 0)

@@ -2,7 +2,7 @@
 #![tactic(auto)]
 
 ghost use Rattle.std.specs.Prelude.{◌≡◌};
-ghost use Rattle.book.specs.Calls.{freshBook};
+ghost use Rattle.book.specs.Calls.{fresh_book};
 
 use adjust::terms::Class;
 use adjust::{Benchmark, Opening, Point, Sections, Summary};
@@ -51,7 +51,7 @@ pub struct CloseOutcome {
 
 // A book with nothing in it.
 pub fn fresh() -> Book
-    ensures { result ≡ freshBook }
+    ensures { result ≡ fresh_book }
 {
     let none = Run {
         count: 0,

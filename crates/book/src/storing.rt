@@ -1,6 +1,6 @@
 // A change that is made of a book.
 ghost use Rattle.std.specs.Prelude.{◌≡◌};
-ghost use Rattle.book.specs.code.Changes.{withChange, changed};
+ghost use Rattle.book.specs.code.Changes.{with_change, changed};
 
 use adjust::Sections;
 use changes::Change;
@@ -8,7 +8,7 @@ use changes::storing::store;
 use rules::Book;
 
 fn with_change(s: Sections, c: Change) -> Sections
-    ensures { result ≡ withChange s c }
+    ensures { result ≡ with_change s c }
 {
     let mut numbers = s.numbers;
     let mut heights = s.heights;

@@ -1,11 +1,11 @@
 // What each call makes of a line and the lists of its sections, which are lent: its refusal, or its effect on the line and the section that it finishes.
 ghost use Rattle.std.specs.Prelude.{◌≡◌};
 ghost use Rattle.records.specs.declared.Tag.TheVariants.{Sta, Ang};
-ghost use Rattle.rules.specs.LineState.{bookIn, stateIn};
-ghost use Rattle.rules.specs.code.Seen.{numbersIn, beside};
-ghost use Rattle.rules.specs.Rules.{open-line, station, end-run, drop-run, drop-section, close-line, open-spur, close-spur, collimation, bookRefusal};
+ghost use Rattle.rules.specs.LineState.{book_in, state_in};
+ghost use Rattle.rules.specs.code.Seen.{numbers_in, beside};
+ghost use Rattle.rules.specs.Rules.{open_line, station, end_run, drop_run, drop_section, close_line, open_spur, close_spur, collimation, book_refusal};
 ghost use Rattle.rules.specs.Records.{call_of};
-ghost use Rattle.changes.specs.code.Changes.{lineOnly, lineChange, changeBy, changeOf};
+ghost use Rattle.changes.specs.code.Changes.{line_only, line_change, change_by, change_of};
 
 use super::Change;
 use super::effects::{
@@ -25,7 +25,7 @@ use station::Readings;
 
 // A change of the line alone. Of a call that is refused the line is the old one.
 pub(crate) fn line_only(number: u8, line: Line) -> Change
-    ensures { result ≡ lineOnly number line }
+    ensures { result ≡ line_only number line }
 {
     let none = Section {
         number: 0,
@@ -43,7 +43,7 @@ pub(crate) fn line_only(number: u8, line: Line) -> Change
 
 // Of a call that only leaves another line where it is taken.
 fn line_change(number: u8, line: Line, next: Line) -> Change
-    ensures { result ≡ lineChange number line next }
+    ensures { result ≡ line_change number line next }
 {
     if number != 0 {
         return line_only(number, line);
@@ -59,7 +59,7 @@ fn open_change(
     number: i64,
     height: i64,
 ) -> Change
-    ensures { result ≡ changeBy (bookRefusal (beside line count) (open-line order instrument number height)) line (open-line order instrument number height) }
+    ensures { result ≡ change_by (book_refusal (beside line count) (open_line order instrument number height)) line (open_line order instrument number height) }
 {
     let code = open_refusal(line, count, order, instrument, number, height);
     line_change(
@@ -77,7 +77,7 @@ fn open_spur_change(
     number: i64,
     height: i64,
 ) -> Change
-    ensures { result ≡ changeBy (bookRefusal (beside line count) (open-spur order instrument number height)) line (open-spur order instrument number height) }
+    ensures { result ≡ change_by (book_refusal (beside line count) (open_spur order instrument number height)) line (open_spur order instrument number height) }
 {
     let code = open_spur_refusal(line, count, order, instrument, number, height);
     line_change(
@@ -95,7 +95,7 @@ pub fn station_change(
     kf: i64,
     readings: [[i64; 4]; 2],
 ) -> Change
-    ensures { result ≡ changeBy (bookRefusal (numbersIn line count numbers.now) (station kb kf readings)) line (station kb kf readings) }
+    ensures { result ≡ change_by (book_refusal (numbers_in line count numbers.now) (station kb kf readings)) line (station kb kf readings) }
 {
     let opening = line.opening;
     let staffs = opening.staffs;
@@ -114,7 +114,7 @@ pub fn station_change(
 
 // A station's record: the constant and the readings of the back staff, then of the fore staff.
 fn station_record(line: Line, count: usize, numbers: &[i64; 64], v: [i64; 10]) -> Change
-    ensures { result ≡ changeBy (bookRefusal (numbersIn line count numbers.now) (call_of Sta v)) line (call_of Sta v) }
+    ensures { result ≡ change_by (book_refusal (numbers_in line count numbers.now) (call_of Sta v)) line (call_of Sta v) }
 {
     let back = [v[1], v[2], v[3], v[4]];
     let fore = [v[6], v[7], v[8], v[9]];
@@ -123,20 +123,20 @@ fn station_record(line: Line, count: usize, numbers: &[i64; 64], v: [i64; 10]) -
 
 #[tactic(auto, unfolding(crate::specs::code::Changes::effect_of))]
 pub fn collimation_change(line: Line, count: usize, x: [i64; 6]) -> Change
-    ensures { result ≡ changeBy (bookRefusal (beside line count) (collimation x)) line (collimation x) }
+    ensures { result ≡ change_by (book_refusal (beside line count) (collimation x)) line (collimation x) }
 {
     line_change(collimation_refusal(line, count, x), line, collimated(line))
 }
 
 // Its record: the first six numbers.
 fn collimation_record(line: Line, count: usize, v: [i64; 10]) -> Change
-    ensures { result ≡ changeBy (bookRefusal (beside line count) (call_of Ang v)) line (call_of Ang v) }
+    ensures { result ≡ change_by (book_refusal (beside line count) (call_of Ang v)) line (call_of Ang v) }
 {
     collimation_change(line, count, [v[0], v[1], v[2], v[3], v[4], v[5]])
 }
 
 fn end_change(line: Line, count: usize, numbers: &[i64; 64], number: i64) -> Change
-    ensures { result ≡ changeBy (bookRefusal (numbersIn line count numbers.now) (end-run number)) line (end-run number) }
+    ensures { result ≡ change_by (book_refusal (numbers_in line count numbers.now) (end_run number)) line (end_run number) }
 {
     let code = end_refusal(line, count, numbers, number);
     if code != 0 {
@@ -147,13 +147,13 @@ fn end_change(line: Line, count: usize, numbers: &[i64; 64], number: i64) -> Cha
 
 #[tactic(auto, unfolding(crate::specs::code::Changes::effect_of))]
 fn drop_run_change(line: Line, count: usize) -> Change
-    ensures { result ≡ changeBy (bookRefusal (beside line count) drop-run) line drop-run }
+    ensures { result ≡ change_by (book_refusal (beside line count) drop_run) line drop_run }
 {
     line_change(drop_refusal(line, count), line, run_dropped(line))
 }
 
 fn drop_section_change(line: Line, count: usize) -> Change
-    ensures { result ≡ changeBy (bookRefusal (beside line count) drop-section) line drop-section }
+    ensures { result ≡ change_by (book_refusal (beside line count) drop_section) line drop_section }
 {
     line_change(drop_refusal(line, count), line, section_dropped(line))
 }
@@ -168,7 +168,7 @@ fn close_change<'a>(
     number: i64,
     end: i64,
 ) -> Change
-    ensures { result ≡ changeBy (bookRefusal (stateIn line count numbers.now heights.now distances.now discrepancies.now) (close-line number end)) line (close-line number end) }
+    ensures { result ≡ change_by (book_refusal (state_in line count numbers.now heights.now distances.now discrepancies.now) (close_line number end)) line (close_line number end) }
 {
     let code = close_refusal(
         line,
@@ -193,7 +193,7 @@ fn close_spur_change<'a>(
     discrepancies: &'a [i64; 64],
     number: i64,
 ) -> Change
-    ensures { result ≡ changeBy (bookRefusal (stateIn line count numbers.now heights.now distances.now discrepancies.now) (close-spur number)) line (close-spur number) }
+    ensures { result ≡ change_by (book_refusal (state_in line count numbers.now heights.now distances.now discrepancies.now) (close_spur number)) line (close_spur number) }
 {
     let code = close_spur_refusal(
         line,
@@ -218,7 +218,7 @@ pub fn decide<'a>(
     tag: Tag,
     v: [i64; 10],
 ) -> Change
-    ensures { result ≡ changeOf (bookIn line count numbers.now heights.now distances.now discrepancies.now) (call_of tag v) }
+    ensures { result ≡ change_of (book_in line count numbers.now heights.now distances.now discrepancies.now) (call_of tag v) }
 {
     match tag {
         Tag::Lin => open_change(line, count, v[0], v[1], v[2], v[3]),

@@ -2,8 +2,8 @@
 ghost use Rattle.std.specs.Prelude.{◌≡◌, true};
 ghost use Rattle.station.specs.code.Bounds.{Small};
 ghost use Rattle.rules.specs.declared.Waiting.TheVariants.{Nothing};
-ghost use Rattle.rules.specs.LineState.{noRun, withStation, oneWay, bothWays};
-ghost use Rattle.rules.specs.Rules.{end-run, class_of, instrumentOf, openingOf, withOpening, withRuns, closedAt};
+ghost use Rattle.rules.specs.LineState.{no_run, with_station, one_way, both_ways};
+ghost use Rattle.rules.specs.Rules.{end_run, class_of, instrument_of, opening_of, with_opening, with_runs, closed_at};
 ghost use Rattle.rules.specs.Rules as Rules;
 ghost use Rattle.rules.specs.code.Bounds.{SmallRun, SmallRuns};
 ghost use Rattle.changes.specs.code.Changes.{effect_of};
@@ -16,7 +16,7 @@ use rules::{Line, Run, Stage, Waiting};
 use station::{Figures, Instrument, Staffs};
 
 fn no_run() -> Run
-    ensures { result ≡ noRun }
+    ensures { result ≡ no_run }
 {
     Run {
         count: 0,
@@ -29,7 +29,7 @@ fn no_run() -> Run
 
 // The line with other runs.
 fn with_runs(line: Line, waiting: Waiting, present: Run) -> Line
-    ensures { result ≡ withRuns line waiting present }
+    ensures { result ≡ with_runs line waiting present }
 {
     let stage = line.stage;
     let opening = line.opening;
@@ -51,7 +51,7 @@ pub(crate) fn class_of(n: i64) -> Class
 }
 
 fn instrument_of(n: i64) -> Instrument
-    ensures { result ≡ instrumentOf n }
+    ensures { result ≡ instrument_of n }
 {
     if n == 3 {
         Instrument::Ds3
@@ -61,7 +61,7 @@ fn instrument_of(n: i64) -> Instrument
 }
 
 pub(crate) fn opening_of(class: Class, instrument: i64, number: i64, height: i64) -> Opening
-    ensures { result ≡ openingOf class instrument number height }
+    ensures { result ≡ opening_of class instrument number height }
 {
     let start = Benchmark {
         number: number,
@@ -92,7 +92,7 @@ pub(crate) fn begun(opening: Opening) -> Line
 // ---- the collimation test
 
 pub(crate) fn collimated(line: Line) -> Line
-    ensures { result ≡ withOpening line (Rules.collimated line.opening) }
+    ensures { result ≡ with_opening line (Rules.collimated line.opening) }
 {
     let mut opening = line.opening;
     opening.collimated = true;
@@ -113,7 +113,7 @@ pub(crate) fn collimated(line: Line) -> Line
 // The line with the present run's sums and a station's.
 pub(crate) fn with_station(line: Line, f: Figures, kf: i64) -> Line
     requires { SmallRun line.present × Small f }
-    ensures { result ≡ withRuns line line.waiting (withStation line.present f kf) }
+    ensures { result ≡ with_runs line line.waiting (with_station line.present f kf) }
 {
     let waiting = line.waiting;
     let u = line.present;
@@ -131,7 +131,7 @@ pub(crate) fn with_station(line: Line, f: Figures, kf: i64) -> Line
 
 fn one_way(number: i64, run: Run) -> Section
     requires { SmallRun run }
-    ensures { result ≡ oneWay number run }
+    ensures { result ≡ one_way number run }
 {
     Section {
         number: number,
@@ -143,7 +143,7 @@ fn one_way(number: i64, run: Run) -> Section
 
 fn both_ways(number: i64, out: Run, back: Run) -> Section
     requires { SmallRun out × SmallRun back }
-    ensures { result ≡ bothWays number out back }
+    ensures { result ≡ both_ways number out back }
 {
     Section {
         number: number,
@@ -155,7 +155,7 @@ fn both_ways(number: i64, out: Run, back: Run) -> Section
 
 // A section is finished: nothing waits any more, and the next run begins.
 fn finished(line: Line, section: Section) -> Change
-    ensures { result ≡ record { number = 0; line = withRuns line Nothing noRun; finishes = true; section = section } }
+    ensures { result ≡ record { number = 0; line = with_runs line Nothing no_run; finishes = true; section = section } }
 {
     Change {
         number: 0,
@@ -169,7 +169,7 @@ fn finished(line: Line, section: Section) -> Change
 #[tactic(auto, unfolding(crate::specs::code::Changes::effect_of))]
 fn outward_ended(line: Line, number: i64) -> Change
     requires { SmallRun line.present × (line.waiting ≡ Nothing) }
-    ensures { result ≡ effect_of line (end-run number) }
+    ensures { result ≡ effect_of line (end_run number) }
 {
     let opening = line.opening;
     let class = opening.class;
@@ -187,7 +187,7 @@ fn outward_ended(line: Line, number: i64) -> Change
 #[tactic(auto, unfolding(crate::specs::code::Changes::effect_of))]
 pub(crate) fn run_ended(line: Line, number: i64) -> Change
     requires { SmallRuns line.waiting line.present }
-    ensures { result ≡ effect_of line (end-run number) }
+    ensures { result ≡ effect_of line (end_run number) }
 {
     let waiting = line.waiting;
     let present = line.present;
@@ -200,14 +200,14 @@ pub(crate) fn run_ended(line: Line, number: i64) -> Change
 // ---- drop run, drop section
 
 pub(crate) fn run_dropped(line: Line) -> Line
-    ensures { result ≡ withRuns line line.waiting noRun }
+    ensures { result ≡ with_runs line line.waiting no_run }
 {
     let waiting = line.waiting;
     with_runs(line, waiting, no_run())
 }
 
 pub(crate) fn section_dropped(line: Line) -> Line
-    ensures { result ≡ withRuns line Nothing noRun }
+    ensures { result ≡ with_runs line Nothing no_run }
 {
     with_runs(line, Waiting::Nothing, no_run())
 }
@@ -215,7 +215,7 @@ pub(crate) fn section_dropped(line: Line) -> Line
 // ---- close
 
 pub(crate) fn closed(line: Line, end: i64) -> Line
-    ensures { result ≡ closedAt line end }
+    ensures { result ≡ closed_at line end }
 {
     let opening = line.opening;
     let waiting = line.waiting;

@@ -1,6 +1,6 @@
 // A change's section goes into the lists.
 ghost use Rattle.std.specs.Prelude.{◌≡◌, cond, ◌+◌};
-ghost use Rattle.changes.specs.code.Changes.{stores, storedIn};
+ghost use Rattle.changes.specs.code.Changes.{stores, stored_in};
 
 use super::Change;
 
@@ -14,10 +14,10 @@ pub fn store(
     discrepancies: &mut [i64; 64],
 ) -> usize
     ensures { (result ≡ cond (stores c count) (count + 1) count)
-        × ((numbers.new ≡ storedIn c count numbers.old c.section.number)
-        × ((heights.new ≡ storedIn c count heights.old c.section.height)
-        × ((distances.new ≡ storedIn c count distances.old c.section.distance)
-        × (discrepancies.new ≡ storedIn c count discrepancies.old c.section.discrepancy)))) }
+        × ((numbers.new ≡ stored_in c count numbers.old c.section.number)
+        × ((heights.new ≡ stored_in c count heights.old c.section.height)
+        × ((distances.new ≡ stored_in c count distances.old c.section.distance)
+        × (discrepancies.new ≡ stored_in c count discrepancies.old c.section.discrepancy)))) }
 {
     if c.finishes & (count < 64) {
         let section = c.section;

@@ -12,8 +12,8 @@ pub record Collimation : Type 0 where
   pub d1 : ℤ
   pub d2 : ℤ
 
-abbrev pub collimationOf : List ℤ → Collimation
-collimationOf x =
+abbrev pub collimation_of : List ℤ → Collimation
+collimation_of x =
     record {
       a1 = get_or x 0 (pos 0);
       b1 = get_or x 1 (pos 0);
@@ -25,38 +25,38 @@ collimationOf x =
 
 -- ---- the ranges
 
-abbrev pub sumsInRange : Collimation → Bool
-sumsInRange c =
+abbrev pub sums_in_range : Collimation → Bool
+sums_in_range c =
     between (pos 0) c.a1 (pos 12000) && between (pos 0) c.b1 (pos 12000) && between (pos 0) c.a2 (pos 12000)
     && between (pos 0) c.b2 (pos 12000)
 
-abbrev pub distancesInRange : Collimation → Bool
-distancesInRange c = between (pos 5000) c.d1 (pos 7000) && between (pos 40000) c.d2 (pos 50000)
+abbrev pub distances_in_range : Collimation → Bool
+distances_in_range c = between (pos 5000) c.d1 (pos 7000) && between (pos 40000) c.d2 (pos 50000)
 
 abbrev pub in_range : Collimation → Bool
-in_range c = sumsInRange c && distancesInRange c
+in_range c = sums_in_range c && distances_in_range c
 
 -- ---- the i angle
 
 -- U, eight times the Δ of (B11)
-abbrev pub eightDelta : Collimation → ℤ
-eightDelta c = (c.a2 -ℤ c.b2) -ℤ (c.a1 -ℤ c.b1)
+abbrev pub eight_delta : Collimation → ℤ
+eight_delta c = (c.a2 -ℤ c.b2) -ℤ (c.a1 -ℤ c.b1)
 
 -- the i angle in seconds, and its limit, both times 80,000,000 × (D2 − D1)
-abbrev pub scaledAngle : Collimation → ℤ
-scaledAngle c = pos 2062650000000 *ℤ eightDelta c -ℤ pos 1288 *ℤ (c.d2 *ℤ c.d2 -ℤ c.d1 *ℤ c.d1)
+abbrev pub scaled_angle : Collimation → ℤ
+scaled_angle c = pos 2062650000000 *ℤ eight_delta c -ℤ pos 1288 *ℤ (c.d2 *ℤ c.d2 -ℤ c.d1 *ℤ c.d1)
 
-abbrev pub scaledLimit : Collimation → ℤ
-scaledLimit c = pos 1600000000 *ℤ (c.d2 -ℤ c.d1)
+abbrev pub scaled_limit : Collimation → ℤ
+scaled_limit c = pos 1600000000 *ℤ (c.d2 -ℤ c.d1)
 
-unfoldable pub withinAngle : Collimation → Bool
-withinAngle c = le_z (pos (nat_abs (scaledAngle c))) (scaledLimit c)
+unfoldable pub within_angle : Collimation → Bool
+within_angle c = le_z (pos (nat_abs (scaled_angle c))) (scaled_limit c)
 
 -- ---- the tests
 
 -- what the input alone causes
-abbrev pub rangeTests : Collimation → List (ℕ × Bool)
-rangeTests c = (44, not (in_range c)) ∷ []
+abbrev pub range_tests : Collimation → List (ℕ × Bool)
+range_tests c = (44, not (in_range c)) ∷ []
 
-abbrev pub angleTests : Collimation → List (ℕ × Bool)
-angleTests c = (44, not (in_range c)) ∷ (45, not (withinAngle c)) ∷ []
+abbrev pub angle_tests : Collimation → List (ℕ × Bool)
+angle_tests c = (44, not (in_range c)) ∷ (45, not (within_angle c)) ∷ []

@@ -3,13 +3,13 @@
 
 ghost use Rattle.std.specs.Prelude.{◌≡◌, true};
 ghost use Rattle.numbers.specs.Tables.{first_of};
-ghost use Rattle.collimation.specs.Collimation.{collimationOf, sumsInRange, distancesInRange, in_range, scaledAngle, withinAngle, rangeTests, angleTests};
+ghost use Rattle.collimation.specs.Collimation.{collimation_of, sums_in_range, distances_in_range, in_range, scaled_angle, within_angle, range_tests, angle_tests};
 
 use roots::limits::magnitude;
 use station::pick;
 
 fn sums_in_range(x: [i64; 6]) -> bool
-    ensures { result ≡ sumsInRange (collimationOf x) }
+    ensures { result ≡ sums_in_range (collimation_of x) }
 {
     ((0 <= x[0]) & (x[0] <= 12000))
         & ((0 <= x[1]) & (x[1] <= 12000))
@@ -18,20 +18,20 @@ fn sums_in_range(x: [i64; 6]) -> bool
 }
 
 fn distances_in_range(x: [i64; 6]) -> bool
-    ensures { result ≡ distancesInRange (collimationOf x) }
+    ensures { result ≡ distances_in_range (collimation_of x) }
 {
     ((5000 <= x[4]) & (x[4] <= 7000)) & ((40000 <= x[5]) & (x[5] <= 50000))
 }
 
 fn in_range(x: [i64; 6]) -> bool
-    ensures { result ≡ in_range (collimationOf x) }
+    ensures { result ≡ in_range (collimation_of x) }
 {
     sums_in_range(x) & distances_in_range(x)
 }
 
 fn scaled_angle(x: [i64; 6]) -> i64
-    requires { in_range (collimationOf x) ≡ true }
-    ensures { result ≡ scaledAngle (collimationOf x) }
+    requires { in_range (collimation_of x) ≡ true }
+    ensures { result ≡ scaled_angle (collimation_of x) }
 {
     let u = (x[2] - x[3]) - (x[0] - x[1]);
     let d1 = x[4];
@@ -40,8 +40,8 @@ fn scaled_angle(x: [i64; 6]) -> i64
 }
 
 fn within_angle(x: [i64; 6]) -> bool
-    requires { in_range (collimationOf x) ≡ true }
-    ensures { result ≡ withinAngle (collimationOf x) }
+    requires { in_range (collimation_of x) ≡ true }
+    ensures { result ≡ within_angle (collimation_of x) }
 {
     let limit = 1600000000 * (x[5] - x[4]);
     magnitude(scaled_angle(x)) <= limit as u64
@@ -49,14 +49,14 @@ fn within_angle(x: [i64; 6]) -> bool
 
 // The refusal that a value outside its range causes: 44, or 0.
 pub fn input_refusal(x: [i64; 6]) -> u8
-    ensures { result ≡ first_of (rangeTests (collimationOf x)) }
+    ensures { result ≡ first_of (range_tests (collimation_of x)) }
 {
     pick(!in_range(x), 44, 0)
 }
 
 // The refusal of values outside their ranges, or of an i angle above its limit: 44, 45, or 0.
 pub fn angle_refusal(x: [i64; 6]) -> u8
-    ensures { result ≡ first_of (angleTests (collimationOf x)) }
+    ensures { result ≡ first_of (angle_tests (collimation_of x)) }
 {
     if !in_range(x) {
         return 44;

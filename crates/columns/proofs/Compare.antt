@@ -6,8 +6,8 @@ use Prim.Native.Nat.{ℕ, ◌+◌, ◌≤◌, ◌<◌}
 use borrow.Author.Tests.{eq-eqb, eqb-true, ne_eqb}
 use lib.Dec.{eqb}
 use lib.ListN.{length, drop, get_or, drop_of_length-le}
-use Rattle.numbers.proofs.Tests.{by-test, holds, is_true}
-use Rattle.numbers.proofs.Arrays.{drop-next}
+use Rattle.numbers.proofs.Tests.{by_test, holds, is_true}
+use Rattle.numbers.proofs.Arrays.{drop_next}
 use Rattle.columns.specs.Decimals.{same}
 
 -- of two tests of which the second is made where the first holds
@@ -29,21 +29,21 @@ same_true (x ∷ xs) (y ∷ ys) e =
     let t = both (eqb x y) (same xs ys) e in
     λ i. eqb-true x y t.0 i ∷ same_true xs ys t.1 i
 
-pub same-equal : (xs ys : List ℕ) → xs ≡ ys → same xs ys ≡ true
-same-equal xs ys e = ap (same xs) (sym e) ∙ same_refl xs
+pub same_equal : (xs ys : List ℕ) → xs ≡ ys → same xs ys ≡ true
+same_equal xs ys e = ap (same xs) (sym e) ∙ same_refl xs
 
-pub same-differ : (xs ys : List ℕ) → (xs ≡ ys → ⊥) → same xs ys ≡ false
-same-differ xs ys h = by-test (same xs ys) (λ t. t ≡ false) (λ t. absurd (h (same_true xs ys (is_true t)))) (λ t. refl)
+pub same_differ : (xs ys : List ℕ) → (xs ≡ ys → ⊥) → same xs ys ≡ false
+same_differ xs ys h = by_test (same xs ys) (λ t. t ≡ false) (λ t. absurd (h (same_true xs ys (is_true t)))) (λ t. refl)
 
-pub same-lengths : (xs ys : List ℕ) → (length xs ≡ length ys → ⊥) → same xs ys ≡ false
-same-lengths xs ys h = same-differ xs ys (λ e. h (ap length e))
+pub same_lengths : (xs ys : List ℕ) → (length xs ≡ length ys → ⊥) → same xs ys ≡ false
+same_lengths xs ys h = same_differ xs ys (λ e. h (ap length e))
 
 -- ---- a turn of the loop that compares
 
 module _ (xs ys : List ℕ) (i : ℕ) (hx : i < length xs) (hy : i < length ys) where
   turn : same (drop i xs) (drop i ys) ≡ cond (eqb (get_or xs i 0) (get_or ys i 0)) (same (drop (i + 1) xs) (drop (i + 1) ys)) false
   unfolding same
-  turn = λ j. same (drop-next xs i 0 hx j) (drop-next ys i 0 hy j)
+  turn = λ j. same (drop_next xs i 0 hx j) (drop_next ys i 0 hy j)
 
   pub same_next : get_or xs i 0 ≡ get_or ys i 0 → same (drop i xs) (drop i ys) ≡ same (drop (i + 1) xs) (drop (i + 1) ys)
   same_next e = turn ∙ ap (λ (t : Bool). cond t (same (drop (i + 1) xs) (drop (i + 1) ys)) false) (eq-eqb (get_or xs i 0) (get_or ys i 0) e)

@@ -9,13 +9,13 @@ use native.Mathlib.Omega.{arith}
 use borrow.Author.Tests.{lt-ltb, le-ltb, le-leb, leb-true}
 use lib.Dec.{leb}
 use lib.ListN.{length, length-append}
-use Rattle.columns.specs.Decimals.{digitsBy, digits, value_of}
-use Rattle.columns.specs.code.Parser.{isDigit, allDigits}
+use Rattle.columns.specs.Decimals.{digits_by, digits, value_of}
+use Rattle.columns.specs.code.Parser.{is_digit, all_digits}
 use Rattle.columns.proofs.Compare.{both}
 
 -- a number has one digit or more
-pub one-or-more : (n : ℕ) {C : Type 0} → (n < 10 → C) → (10 ≤ n → C) → C
-one-or-more n {C} one more = go (dec_lt n 10)
+pub one_or_more : (n : ℕ) {C : Type 0} → (n < 10 → C) → (10 ≤ n → C) → C
+one_or_more n {C} one more = go (dec_lt n 10)
   where
     go : Dec (n < 10) → C
     go (yes h) = one h
@@ -27,69 +27,69 @@ one-or-more n {C} one more = go (dec_lt n 10)
 abbrev last : ℕ → List ℕ
 last n = (48 + n % 10) ∷ []
 
-by-small : (f n : ℕ) → n < 10 → digitsBy (suc f) n ≡ last n
-unfolding digitsBy
-by-small f n h = simp (lt-ltb n 10 h)
+by_small : (f n : ℕ) → n < 10 → digits_by (suc f) n ≡ last n
+unfolding digits_by
+by_small f n h = simp (lt-ltb n 10 h)
 
-by-large : (f n : ℕ) → 10 ≤ n → digitsBy (suc f) n ≡ digitsBy f (n / 10) ++ last n
-unfolding digitsBy
-by-large f n h = simp (le-ltb n 10 h)
+by_large : (f n : ℕ) → 10 ≤ n → digits_by (suc f) n ≡ digits_by f (n / 10) ++ last n
+unfolding digits_by
+by_large f n h = simp (le-ltb n 10 h)
 
 -- fuel that is enough is as good as any other
-fuel : (f g n : ℕ) → n < f → n < g → digitsBy f n ≡ digitsBy g n
+fuel : (f g n : ℕ) → n < f → n < g → digits_by f n ≡ digits_by g n
 fuel zero g n h k = absurd (omega arith)
 fuel (suc f) zero n h k = absurd (omega arith)
 fuel (suc f) (suc g) n h k =
-    one-or-more n (λ s. by-small f n s ∙ sym (by-small g n s))
+    one_or_more n (λ s. by_small f n s ∙ sym (by_small g n s))
     (λ l.
-    by-large f n l
+    by_large f n l
     ∙ ap (λ (x : List ℕ). x ++ last n) (fuel f g (n / 10) (omega arith) (omega arith))
-    ∙ sym (by-large g n l))
+    ∙ sym (by_large g n l))
 
-pub digits-small : (n : ℕ) → n < 10 → digits n ≡ (48 + n % 10) ∷ []
+pub digits_small : (n : ℕ) → n < 10 → digits n ≡ (48 + n % 10) ∷ []
 unfolding digits
-digits-small n h = by-small n n h
+digits_small n h = by_small n n h
 
-pub digits-large : (n : ℕ) → 10 ≤ n → digits n ≡ digits (n / 10) ++ ((48 + n % 10) ∷ [])
+pub digits_large : (n : ℕ) → 10 ≤ n → digits n ≡ digits (n / 10) ++ ((48 + n % 10) ∷ [])
 unfolding digits
-digits-large n h = by-large n n h ∙ ap (λ (x : List ℕ). x ++ last n) (fuel n (suc (n / 10)) (n / 10) (omega arith) (omega arith))
+digits_large n h = by_large n n h ∙ ap (λ (x : List ℕ). x ++ last n) (fuel n (suc (n / 10)) (n / 10) (omega arith) (omega arith))
 
 -- what holds of one digit, and of n where it holds of n without its last digit, holds of all
 module _ (P : ℕ → Type 0) (small : (n : ℕ) → n < 10 → P n) (large : (n : ℕ) → 10 ≤ n → P (n / 10) → P n) where
   up_to : (f n : ℕ) → n < f → P n
   up_to zero n h = absurd (omega arith)
-  up_to (suc f) n h = one-or-more n (small n) (λ l. large n l (up_to f (n / 10) (omega arith)))
+  up_to (suc f) n h = one_or_more n (small n) (λ l. large n l (up_to f (n / 10) (omega arith)))
 
-  pub digits-ind : (n : ℕ) → P n
-  digits-ind n = up_to (suc n) n (omega arith)
+  pub digits_ind : (n : ℕ) → P n
+  digits_ind n = up_to (suc n) n (omega arith)
 
 -- ---- its digits
 
-pub digit-yes : (b : ℕ) → 48 ≤ b → b ≤ 57 → isDigit b ≡ true
-digit-yes b l h = simp (le-leb 48 b l, le-leb b 57 h)
+pub digit_yes : (b : ℕ) → 48 ≤ b → b ≤ 57 → is_digit b ≡ true
+digit_yes b l h = simp (le-leb 48 b l, le-leb b 57 h)
 
-all-last : (n : ℕ) (r : List ℕ) → allDigits ((48 + n % 10) ∷ r) ≡ allDigits r
-unfolding allDigits
-all-last n r = ap (λ (t : Bool). cond t (allDigits r) false) (digit-yes (48 + n % 10) (omega arith) (omega arith))
+all_last : (n : ℕ) (r : List ℕ) → all_digits ((48 + n % 10) ∷ r) ≡ all_digits r
+unfolding all_digits
+all_last n r = ap (λ (t : Bool). cond t (all_digits r) false) (digit_yes (48 + n % 10) (omega arith) (omega arith))
 
-pub all_digits : (n : ℕ) (r : List ℕ) → allDigits (digits n ++ r) ≡ allDigits r
-all_digits =
-    digits-ind (λ n. (r : List ℕ) → allDigits (digits n ++ r) ≡ allDigits r)
-    (λ n h r. ap (λ (x : List ℕ). allDigits (x ++ r)) (digits-small n h) ∙ all-last n r)
+pub all_digits_lem : (n : ℕ) (r : List ℕ) → all_digits (digits n ++ r) ≡ all_digits r
+all_digits_lem =
+    digits_ind (λ n. (r : List ℕ) → all_digits (digits n ++ r) ≡ all_digits r)
+    (λ n h r. ap (λ (x : List ℕ). all_digits (x ++ r)) (digits_small n h) ∙ all_last n r)
     (λ n h ih r.
-    ap (λ (x : List ℕ). allDigits (x ++ r)) (digits-large n h)
-    ∙ ap allDigits (append_assoc (digits (n / 10)) (last n) r)
+    ap (λ (x : List ℕ). all_digits (x ++ r)) (digits_large n h)
+    ∙ ap all_digits (append_assoc (digits (n / 10)) (last n) r)
     ∙ ih ((48 + n % 10) ∷ r)
-    ∙ all-last n r)
+    ∙ all_last n r)
 
 -- reading the digits of n, and then r
-pub value-digits : (n : ℕ) (r : List ℕ) → value_of 0 (digits n ++ r) ≡ value_of n r
+pub value_digits : (n : ℕ) (r : List ℕ) → value_of 0 (digits n ++ r) ≡ value_of n r
 unfolding value_of
-value-digits =
-    digits-ind (λ n. (r : List ℕ) → value_of 0 (digits n ++ r) ≡ value_of n r)
-    (λ n h r. ap (λ (x : List ℕ). value_of 0 (x ++ r)) (digits-small n h) ∙ ap (λ (k : ℕ). value_of k r) (one n h))
+value_digits =
+    digits_ind (λ n. (r : List ℕ) → value_of 0 (digits n ++ r) ≡ value_of n r)
+    (λ n h r. ap (λ (x : List ℕ). value_of 0 (x ++ r)) (digits_small n h) ∙ ap (λ (k : ℕ). value_of k r) (one n h))
     (λ n h ih r.
-    ap (λ (x : List ℕ). value_of 0 (x ++ r)) (digits-large n h)
+    ap (λ (x : List ℕ). value_of 0 (x ++ r)) (digits_large n h)
     ∙ ap (value_of 0) (append_assoc (digits (n / 10)) (last n) r)
     ∙ ih ((48 + n % 10) ∷ r)
     ∙ ap (λ (k : ℕ). value_of k r) (more n))
@@ -109,15 +109,15 @@ pub record First (n : ℕ) : Type 0 where
   pub high : head ≤ 57
   pub nonzero : 0 < n → 48 < head
 
-pub first-digit : (n : ℕ) → First n
-first-digit =
-    digits-ind First
-    (λ n h. record { head = 48 + n % 10; tail = []; is = digits-small n h; low = omega arith; high = omega arith; nonzero = λ p. omega arith })
+pub first_digit : (n : ℕ) → First n
+first_digit =
+    digits_ind First
+    (λ n h. record { head = 48 + n % 10; tail = []; is = digits_small n h; low = omega arith; high = omega arith; nonzero = λ p. omega arith })
     (λ n h ih.
     record {
       head = ih.head;
       tail = ih.tail ++ last n;
-      is = digits-large n h ∙ ap (λ (x : List ℕ). x ++ last n) ih.is;
+      is = digits_large n h ∙ ap (λ (x : List ℕ). x ++ last n) ih.is;
       low = ih.low;
       high = ih.high;
       nonzero = λ p. ih.nonzero (omega arith);
@@ -125,40 +125,40 @@ first-digit =
 
 -- ---- its length
 
-pub length-large : (n : ℕ) → 10 ≤ n → length (digits n) ≡ length (digits (n / 10)) + 1
-length-large n h = ap length (digits-large n h) ∙ length-append (digits (n / 10)) (last n)
+pub length_large : (n : ℕ) → 10 ≤ n → length (digits n) ≡ length (digits (n / 10)) + 1
+length_large n h = ap length (digits_large n h) ∙ length-append (digits (n / 10)) (last n)
 
-pub digits-some : (n : ℕ) → 1 ≤ length (digits n)
-digits-some n = omega (arith, ap length (first-digit n).is)
+pub digits_some : (n : ℕ) → 1 ≤ length (digits n)
+digits_some n = omega (arith, ap length (first_digit n).is)
 
 -- a number below 10 ^ k has at most k digits
-pub digits-below : (k n : ℕ) → 0 < k → n < 10 ^ k → length (digits n) ≤ k
-digits-below zero n p h = absurd (omega arith)
-digits-below (suc k) n p h =
-    one-or-more n (λ s. omega (arith, ap length (digits-small n s)))
+pub digits_below : (k n : ℕ) → 0 < k → n < 10 ^ k → length (digits n) ≤ k
+digits_below zero n p h = absurd (omega arith)
+digits_below (suc k) n p h =
+    one_or_more n (λ s. omega (arith, ap length (digits_small n s)))
     (λ l.
     let q : n / 10 < 10 ^ k = omega (arith, pow-suc 10 k) in
-    omega (arith, length-large n l, digits-below k (n / 10) (some k q l) q))
+    omega (arith, length_large n l, digits_below k (n / 10) (some k q l) q))
   where
     some : (k : ℕ) → n / 10 < 10 ^ k → 10 ≤ n → 0 < k
     some zero q l = absurd (omega arith)
     some (suc k) q l = omega arith
 
 -- a number of 64 bits has at most twenty
-pub digits-word : (n : ℕ) → n < 18446744073709551616 → length (digits n) ≤ 20
-digits-word n h = digits-below 20 n (omega arith) (omega arith)
+pub digits_word : (n : ℕ) → n < 18446744073709551616 → length (digits n) ≤ 20
+digits_word n h = digits_below 20 n (omega arith) (omega arith)
 
 -- ---- digits read
 
-pub digit-range : (b : ℕ) → isDigit b ≡ true → (48 ≤ b) × (b ≤ 57)
-digit-range b e =
+pub digit_range : (b : ℕ) → is_digit b ≡ true → (48 ≤ b) × (b ≤ 57)
+digit_range b e =
     let t = both (leb 48 b) (leb b 57) e in
     (leb-true 48 b t.0, leb-true b 57 t.1)
 
 -- a digit after a number from 1 on
-digits-next : (a b : ℕ) → 0 < a → 48 ≤ b → b ≤ 57 → digits (10 * a + (b - 48)) ≡ digits a ++ (b ∷ [])
-digits-next a b p l h =
-    digits-large (10 * a + (b - 48)) (omega arith) ∙ (λ i. digits (front a b l h i) ++ (back a b l h i ∷ []))
+digits_next : (a b : ℕ) → 0 < a → 48 ≤ b → b ≤ 57 → digits (10 * a + (b - 48)) ≡ digits a ++ (b ∷ [])
+digits_next a b p l h =
+    digits_large (10 * a + (b - 48)) (omega arith) ∙ (λ i. digits (front a b l h i) ++ (back a b l h i ∷ []))
   where
     front : (a b : ℕ) → 48 ≤ b → b ≤ 57 → (10 * a + (b - 48)) / 10 ≡ a
     front a b l h = omega arith
@@ -167,12 +167,12 @@ digits-next a b p l h =
     back a b l h = omega arith
 
 -- digits after a number from 1 on are the last digits of what they make with it
-pub digits_value : (a : ℕ) (bs : List ℕ) → 0 < a → allDigits bs ≡ true → digits (value_of a bs) ≡ digits a ++ bs
-unfolding value_of allDigits
+pub digits_value : (a : ℕ) (bs : List ℕ) → 0 < a → all_digits bs ≡ true → digits (value_of a bs) ≡ digits a ++ bs
+unfolding value_of all_digits
 digits_value a [] p h = sym (append-nil (digits a))
 digits_value a (b ∷ bs) p h =
-    let t = both (isDigit b) (allDigits bs) h in
-    let d = digit-range b t.0 in
+    let t = both (is_digit b) (all_digits bs) h in
+    let d = digit_range b t.0 in
     digits_value (10 * a + (b - 48)) bs (omega arith) t.1
-    ∙ ap (λ (x : List ℕ). x ++ bs) (digits-next a b p d.0 d.1)
+    ∙ ap (λ (x : List ℕ). x ++ bs) (digits_next a b p d.0 d.1)
     ∙ append_assoc (digits a) (b ∷ []) bs

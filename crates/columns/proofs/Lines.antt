@@ -11,62 +11,62 @@ use lib.Signed.{lt_z}
 use lib.ListN.{length, take, drop, get_or, replicate, length-append, length-drop}
 use lib.Seq.{take_all, drop-append-le}
 use Rattle.numbers.specs.Numbers.{put_at}
-use Rattle.numbers.proofs.Tests.{by-test, is_false}
-use Rattle.numbers.proofs.Parts.{ints, posPart, negPart, parts-abs, test-ge}
-use Rattle.numbers.proofs.Arrays.{put-after, drop-next}
-use Rattle.columns.specs.Decimals.{blanks, fitsIn, pad}
-use Rattle.columns.specs.Lines.{lineEnd, lineWith, width_of, fields, all_fit, columnsOf, lineFits, tagLine, is_wide, title}
-use Rattle.columns.proofs.Lists.{left-next}
+use Rattle.numbers.proofs.Tests.{by_test, is_false}
+use Rattle.numbers.proofs.Parts.{ints, pos_part, neg_part, parts_abs, test_ge}
+use Rattle.numbers.proofs.Arrays.{put_after, drop_next}
+use Rattle.columns.specs.Decimals.{blanks, fits_in, pad}
+use Rattle.columns.specs.Lines.{line_end, line_with, width_of, fields, all_fit, columns_of, line_fits, tag_line, is_wide, title}
+use Rattle.columns.proofs.Lists.{left_next}
 use Rattle.columns.proofs.Compare.{both}
-use Rattle.columns.proofs.Fields.{length-blanks, length-pad, fits-within}
+use Rattle.columns.proofs.Fields.{length_blanks, length_pad, fits_within}
 
 -- ---- the columns of fields
 
-pub columns-narrow : (n : ℕ) → columnsOf false n ≡ 8 * n
-unfolding columnsOf width_of
-columns-narrow zero = refl
-columns-narrow (suc n) = omega arith
+pub columns_narrow : (n : ℕ) → columns_of false n ≡ 8 * n
+unfolding columns_of width_of
+columns_narrow zero = refl
+columns_narrow (suc n) = omega arith
 
-pub columns-wide : (n : ℕ) → (n ≡ 0 → ⊥) → columnsOf true n ≡ 8 * n + 8
-unfolding columnsOf width_of
-columns-wide zero h = absurd (h refl)
-columns-wide (suc n) h = omega arith
+pub columns_wide : (n : ℕ) → (n ≡ 0 → ⊥) → columns_of true n ≡ 8 * n + 8
+unfolding columns_of width_of
+columns_wide zero h = absurd (h refl)
+columns_wide (suc n) h = omega arith
 
-pub columns-range : (wide : Bool) (n : ℕ) → (8 * n ≤ columnsOf wide n) × (columnsOf wide n ≤ 8 * n + 8)
-unfolding columnsOf width_of
-columns-range wide zero = (omega arith, omega arith)
-columns-range true (suc n) = (omega arith, omega arith)
-columns-range false (suc n) = (omega arith, omega arith)
+pub columns_range : (wide : Bool) (n : ℕ) → (8 * n ≤ columns_of wide n) × (columns_of wide n ≤ 8 * n + 8)
+unfolding columns_of width_of
+columns_range wide zero = (omega arith, omega arith)
+columns_range true (suc n) = (omega arith, omega arith)
+columns_range false (suc n) = (omega arith, omega arith)
 
-pub width-before : (wide : Bool) (after : ℕ) → (after ≡ 0 → ⊥) → width_of wide after ≡ 8
+pub width_before : (wide : Bool) (after : ℕ) → (after ≡ 0 → ⊥) → width_of wide after ≡ 8
 unfolding width_of
-width-before wide zero h = absurd (h refl)
-width-before wide (suc after) h = refl
+width_before wide zero h = absurd (h refl)
+width_before wide (suc after) h = refl
 
 -- the first field, and the others
-pub columns-next : (wide : Bool) (n : ℕ) → columnsOf wide (suc n) ≡ width_of wide n + columnsOf wide n
-unfolding columnsOf width_of
-columns-next true zero = refl
-columns-next false zero = refl
-columns-next true (suc n) = omega arith
-columns-next false (suc n) = omega arith
+pub columns_next : (wide : Bool) (n : ℕ) → columns_of wide (suc n) ≡ width_of wide n + columns_of wide n
+unfolding columns_of width_of
+columns_next true zero = refl
+columns_next false zero = refl
+columns_next true (suc n) = omega arith
+columns_next false (suc n) = omega arith
 
-pub length_fields : (wide : Bool) (zs : List ℤ) → all_fit wide zs ≡ true → length (fields wide zs) ≡ columnsOf wide (length zs)
-unfolding fields all_fit columnsOf
+pub length_fields : (wide : Bool) (zs : List ℤ) → all_fit wide zs ≡ true → length (fields wide zs) ≡ columns_of wide (length zs)
+unfolding fields all_fit columns_of
 length_fields wide [] h = refl
 length_fields wide (z ∷ zs) h =
-    let t = both (fitsIn (width_of wide (length zs)) z) (all_fit wide zs) h in
+    let t = both (fits_in (width_of wide (length zs)) z) (all_fit wide zs) h in
     length-append (pad (width_of wide (length zs)) z) (fields wide zs)
-    ∙ (λ i. length-pad (width_of wide (length zs)) z t.0 i + length_fields wide zs t.1 i)
-    ∙ sym (columns-next wide (length zs))
+    ∙ (λ i. length_pad (width_of wide (length zs)) z t.0 i + length_fields wide zs t.1 i)
+    ∙ sym (columns_next wide (length zs))
 
 -- a height fits its field: eight columns down to −9,999,999, sixteen below
-pub height-fits : (z : ℤ) → posPart z < 10 ^ 8 → negPart z < 10 ^ 15 → fitsIn (width_of (is_wide z) 0) z ≡ true
+pub height_fits : (z : ℤ) → pos_part z < 10 ^ 8 → neg_part z < 10 ^ 15 → fits_in (width_of (is_wide z) 0) z ≡ true
 unfolding width_of is_wide
-height-fits z h k =
-    by-test (lt_z z (neg_ℤ (pos 9999999))) (λ t. fitsIn (cond t 16 8) z ≡ true)
-    (λ t. fits-within 15 z (omega arith) (omega arith) k)
-    (λ t. fits-within 7 z (omega arith) h (omega (ints, test-ge {a = z} {b = neg_ℤ (pos 9999999)} (is_false t), parts-abs z)))
+height_fits z h k =
+    by_test (lt_z z (neg_ℤ (pos 9999999))) (λ t. fits_in (cond t 16 8) z ≡ true)
+    (λ t. fits_within 15 z (omega arith) (omega arith) k)
+    (λ t. fits_within 7 z (omega arith) h (omega (ints, test_ge {a = z} {b = neg_ℤ (pos 9999999)} (is_false t), parts_abs z)))
 
 -- ---- a turn of a loop over the numbers
 
@@ -75,130 +75,130 @@ module _ (wide : Bool) (zs : List ℤ) (i : ℕ) (h : i < length zs) where
   abbrev pub width_at : ℕ
   width_at = width_of wide (length zs - (i + 1))
 
-  pub fields-turn : fields wide (drop i zs) ≡ pad width_at (get_or zs i (pos 0)) ++ fields wide (drop (i + 1) zs)
+  pub fields_turn : fields wide (drop i zs) ≡ pad width_at (get_or zs i (pos 0)) ++ fields wide (drop (i + 1) zs)
   unfolding fields
-  fields-turn =
-      ap (fields wide) (drop-next zs i (pos 0) h)
+  fields_turn =
+      ap (fields wide) (drop_next zs i (pos 0) h)
       ∙ ap (λ (k : ℕ). pad (width_of wide k) (get_or zs i (pos 0)) ++ fields wide (drop (i + 1) zs)) (length-drop (i + 1) zs)
 
-  pub fit-turn : all_fit wide (drop i zs) ≡ cond (fitsIn width_at (get_or zs i (pos 0))) (all_fit wide (drop (i + 1) zs)) false
+  pub fit_turn : all_fit wide (drop i zs) ≡ cond (fits_in width_at (get_or zs i (pos 0))) (all_fit wide (drop (i + 1) zs)) false
   unfolding all_fit
-  fit-turn =
-      ap (all_fit wide) (drop-next zs i (pos 0) h)
-      ∙ ap (λ (k : ℕ). cond (fitsIn (width_of wide k) (get_or zs i (pos 0))) (all_fit wide (drop (i + 1) zs)) false) (length-drop (i + 1) zs)
+  fit_turn =
+      ap (all_fit wide) (drop_next zs i (pos 0) h)
+      ∙ ap (λ (k : ℕ). cond (fits_in (width_of wide k) (get_or zs i (pos 0))) (all_fit wide (drop (i + 1) zs)) false) (length-drop (i + 1) zs)
 
-  pub columns-turn : columnsOf wide (length zs - i) ≡ width_at + columnsOf wide (length zs - (i + 1))
-  columns-turn = ap (columnsOf wide) (left-next (length zs) i h) ∙ columns-next wide (length zs - (i + 1))
+  pub columns_turn : columns_of wide (length zs - i) ≡ width_at + columns_of wide (length zs - (i + 1))
+  columns_turn = ap (columns_of wide) (left_next (length zs) i h) ∙ columns_next wide (length zs - (i + 1))
 
   -- number i fits, and so do those after it
-  pub fit-first : all_fit wide (drop i zs) ≡ true → fitsIn width_at (get_or zs i (pos 0)) ≡ true
-  fit-first e = (both (fitsIn width_at (get_or zs i (pos 0))) (all_fit wide (drop (i + 1) zs)) (sym fit-turn ∙ e)).0
+  pub fit_first : all_fit wide (drop i zs) ≡ true → fits_in width_at (get_or zs i (pos 0)) ≡ true
+  fit_first e = (both (fits_in width_at (get_or zs i (pos 0))) (all_fit wide (drop (i + 1) zs)) (sym fit_turn ∙ e)).0
 
-  pub fit-rest : all_fit wide (drop i zs) ≡ true → all_fit wide (drop (i + 1) zs) ≡ true
-  fit-rest e = (both (fitsIn width_at (get_or zs i (pos 0))) (all_fit wide (drop (i + 1) zs)) (sym fit-turn ∙ e)).1
+  pub fit_rest : all_fit wide (drop i zs) ≡ true → all_fit wide (drop (i + 1) zs) ≡ true
+  fit_rest e = (both (fits_in width_at (get_or zs i (pos 0))) (all_fit wide (drop (i + 1) zs)) (sym fit_turn ∙ e)).1
 
   -- field i is written, and then those after it
-  pub put-field : (d : List ℕ) (at : ℕ) → all_fit wide (drop i zs) ≡ true → at ≤ length d
+  pub put_field : (d : List ℕ) (at : ℕ) → all_fit wide (drop i zs) ≡ true → at ≤ length d
       → put_at (put_at d at (pad width_at (get_or zs i (pos 0)))) (at + width_at) (fields wide (drop (i + 1) zs)) ≡ put_at d at (fields wide (drop i zs))
-  put-field d at e h =
+  put_field d at e h =
       let p = pad width_at (get_or zs i (pos 0)) in
       let rest = fields wide (drop (i + 1) zs) in
-      ap (λ (m : ℕ). put_at (put_at d at p) (at + m) rest) (sym (length-pad width_at (get_or zs i (pos 0)) (fit-first e)))
-      ∙ put-after d at p rest h
-      ∙ ap (put_at d at) (sym fields-turn)
+      ap (λ (m : ℕ). put_at (put_at d at p) (at + m) rest) (sym (length_pad width_at (get_or zs i (pos 0)) (fit_first e)))
+      ∙ put_after d at p rest h
+      ∙ ap (put_at d at) (sym fields_turn)
 
 -- ---- the end of a line
 
-pub length-end : (from : ℕ) → from ≤ 83 → length (lineEnd from) ≡ 84 - from
-unfolding lineEnd
-length-end from h = length-append (blanks (83 - from)) (10 ∷ []) ∙ omega (arith, length-blanks (83 - from))
+pub length_end : (from : ℕ) → from ≤ 83 → length (line_end from) ≡ 84 - from
+unfolding line_end
+length_end from h = length-append (blanks (83 - from)) (10 ∷ []) ∙ omega (arith, length_blanks (83 - from))
 
-drop-replicate : (m k a : ℕ) → drop m (replicate k a) ≡ replicate (k - m) a
-drop-replicate zero k a = ap (λ (j : ℕ). replicate j a) (e k)
+drop_replicate : (m k a : ℕ) → drop m (replicate k a) ≡ replicate (k - m) a
+drop_replicate zero k a = ap (λ (j : ℕ). replicate j a) (e k)
   where
     e : (k : ℕ) → k ≡ k - 0
     e k = omega arith
-drop-replicate (suc m) zero a = ap (λ (j : ℕ). replicate j a) (e m)
+drop_replicate (suc m) zero a = ap (λ (j : ℕ). replicate j a) (e m)
   where
     e : (m : ℕ) → 0 ≡ 0 - suc m
     e m = omega arith
-drop-replicate (suc m) (suc k) a = drop-replicate m k a ∙ ap (λ (j : ℕ). replicate j a) (e m k)
+drop_replicate (suc m) (suc k) a = drop_replicate m k a ∙ ap (λ (j : ℕ). replicate j a) (e m k)
   where
     e : (m k : ℕ) → k - m ≡ suc k - suc m
     e m k = omega arith
 
 -- a part of a blank line, as the code takes it
-pub end-part : (from : ℕ) → from ≤ 83 → take (84 - from) (drop from (lineEnd 0)) ≡ lineEnd from
-unfolding lineEnd blanks
-end-part from h =
-    let e : drop from (lineEnd 0) ≡ lineEnd from = drop-append-le from (replicate 83 32) (10 ∷ []) h ∙ ap (λ (x : List ℕ). x ++ (10 ∷ [])) (drop-replicate from 83 32) in
-    ap (take (84 - from)) e ∙ take_all (84 - from) (lineEnd from) (omega (arith, length-end from h))
+pub end_part : (from : ℕ) → from ≤ 83 → take (84 - from) (drop from (line_end 0)) ≡ line_end from
+unfolding line_end blanks
+end_part from h =
+    let e : drop from (line_end 0) ≡ line_end from = drop-append-le from (replicate 83 32) (10 ∷ []) h ∙ ap (λ (x : List ℕ). x ++ (10 ∷ [])) (drop_replicate from 83 32) in
+    ap (take (84 - from)) e ∙ take_all (84 - from) (line_end from) (omega (arith, length_end from h))
 
 -- ---- lengths
 
-pub length-with : (s : List ℕ) → length s ≤ 83 → length (lineWith s) ≡ 84
-unfolding lineWith
-length-with s h = length-append s (lineEnd (length s)) ∙ omega (arith, length-end (length s) h)
+pub length_with : (s : List ℕ) → length s ≤ 83 → length (line_with s) ≡ 84
+unfolding line_with
+length_with s h = length-append s (line_end (length s)) ∙ omega (arith, length_end (length s) h)
 
-pub length-title : length title ≡ 84
+pub length_title : length title ≡ 84
 unfolding title
-length-title = length-with _ (omega arith)
+length_title = length_with _ (omega arith)
 
 -- what fits a line
 pub record FitsLine (tag : List ℕ) (zs : List ℤ) (wide : Bool) : Type 0 where
-  pub room : length tag + columnsOf wide (length zs) ≤ 83
+  pub room : length tag + columns_of wide (length zs) ≤ 83
   pub each : all_fit wide zs ≡ true
-  pub used : length (tag ++ fields wide zs) ≡ length tag + columnsOf wide (length zs)
+  pub used : length (tag ++ fields wide zs) ≡ length tag + columns_of wide (length zs)
 
-pub fits_line : (tag : List ℕ) (zs : List ℤ) (wide : Bool) → lineFits (length tag) zs wide ≡ true → FitsLine tag zs wide
-unfolding lineFits
+pub fits_line : (tag : List ℕ) (zs : List ℤ) (wide : Bool) → line_fits (length tag) zs wide ≡ true → FitsLine tag zs wide
+unfolding line_fits
 fits_line tag zs wide h =
-    let t = both (leb (length tag + columnsOf wide (length zs)) 83) (all_fit wide zs) h in
+    let t = both (leb (length tag + columns_of wide (length zs)) 83) (all_fit wide zs) h in
     record {
-      room = leb-true (length tag + columnsOf wide (length zs)) 83 t.0;
+      room = leb-true (length tag + columns_of wide (length zs)) 83 t.0;
       each = t.1;
       used = length-append tag (fields wide zs) ∙ ap (λ (k : ℕ). length tag + k) (length_fields wide zs t.1);
     }
 
 -- the same, a fact at a time
-pub line-room : (tag : List ℕ) (zs : List ℤ) (wide : Bool) → lineFits (length tag) zs wide ≡ true → length tag + columnsOf wide (length zs) ≤ 83
-line-room tag zs wide h = (fits_line tag zs wide h).room
+pub line_room : (tag : List ℕ) (zs : List ℤ) (wide : Bool) → line_fits (length tag) zs wide ≡ true → length tag + columns_of wide (length zs) ≤ 83
+line_room tag zs wide h = (fits_line tag zs wide h).room
 
-pub line-each : (tag : List ℕ) (zs : List ℤ) (wide : Bool) → lineFits (length tag) zs wide ≡ true → all_fit wide zs ≡ true
-line-each tag zs wide h = (fits_line tag zs wide h).each
+pub line_each : (tag : List ℕ) (zs : List ℤ) (wide : Bool) → line_fits (length tag) zs wide ≡ true → all_fit wide zs ≡ true
+line_each tag zs wide h = (fits_line tag zs wide h).each
 
-pub fits_not : (letters : ℕ) (zs : List ℤ) (wide : Bool) → 83 < letters + columnsOf wide (length zs) → lineFits letters zs wide ≡ false
-unfolding lineFits
-fits_not letters zs wide h = ap (λ (t : Bool). cond t (all_fit wide zs) false) (lt-leb (letters + columnsOf wide (length zs)) 83 h)
+pub fits_not : (letters : ℕ) (zs : List ℤ) (wide : Bool) → 83 < letters + columns_of wide (length zs) → line_fits letters zs wide ≡ false
+unfolding line_fits
+fits_not letters zs wide h = ap (λ (t : Bool). cond t (all_fit wide zs) false) (lt-leb (letters + columns_of wide (length zs)) 83 h)
 
-pub fits-room : (letters : ℕ) (zs : List ℤ) (wide : Bool) → letters + columnsOf wide (length zs) ≤ 83 → lineFits letters zs wide ≡ all_fit wide zs
-unfolding lineFits
-fits-room letters zs wide h = ap (λ (t : Bool). cond t (all_fit wide zs) false) (le-leb (letters + columnsOf wide (length zs)) 83 h)
+pub fits_room : (letters : ℕ) (zs : List ℤ) (wide : Bool) → letters + columns_of wide (length zs) ≤ 83 → line_fits letters zs wide ≡ all_fit wide zs
+unfolding line_fits
+fits_room letters zs wide h = ap (λ (t : Bool). cond t (all_fit wide zs) false) (le-leb (letters + columns_of wide (length zs)) 83 h)
 
 -- the blocks of a line, one after the other
-pub line-built :
+pub line_built :
     (d : List ℕ) (at : ℕ) (tag : List ℕ) (zs : List ℤ) (wide : Bool)
     → FitsLine tag zs wide
     → at + 84 ≤ length d
-    → put_at (put_at (put_at d at tag) (at + length tag) (fields wide zs)) (at + (length tag + columnsOf wide (length zs))) (lineEnd (length tag + columnsOf wide (length zs)))
-    ≡ put_at d at (lineWith (tag ++ fields wide zs))
-unfolding lineWith
-line-built d at tag zs wide f h =
-    ap (λ (x : List ℕ). put_at x (at + (length tag + columnsOf wide (length zs))) (lineEnd (length tag + columnsOf wide (length zs)))) (put-after d at tag (fields wide zs) (omega arith))
-    ∙ ap (λ (k : ℕ). put_at (put_at d at (tag ++ fields wide zs)) (at + k) (lineEnd k)) (sym f.used)
-    ∙ put-after d at (tag ++ fields wide zs) (lineEnd (length (tag ++ fields wide zs))) (omega arith)
+    → put_at (put_at (put_at d at tag) (at + length tag) (fields wide zs)) (at + (length tag + columns_of wide (length zs))) (line_end (length tag + columns_of wide (length zs)))
+    ≡ put_at d at (line_with (tag ++ fields wide zs))
+unfolding line_with
+line_built d at tag zs wide f h =
+    ap (λ (x : List ℕ). put_at x (at + (length tag + columns_of wide (length zs))) (line_end (length tag + columns_of wide (length zs)))) (put_after d at tag (fields wide zs) (omega arith))
+    ∙ ap (λ (k : ℕ). put_at (put_at d at (tag ++ fields wide zs)) (at + k) (line_end k)) (sym f.used)
+    ∙ put_after d at (tag ++ fields wide zs) (line_end (length (tag ++ fields wide zs))) (omega arith)
 
 module _ (tag : List ℕ) (zs : List ℤ) (wide : Bool) where
-  pub line-is : lineFits (length tag) zs wide ≡ true → tagLine tag zs wide ≡ lineWith (tag ++ fields wide zs)
-  unfolding tagLine
-  line-is h = ap (λ (t : Bool). cond t (lineWith (tag ++ fields wide zs)) []) h
+  pub line_is : line_fits (length tag) zs wide ≡ true → tag_line tag zs wide ≡ line_with (tag ++ fields wide zs)
+  unfolding tag_line
+  line_is h = ap (λ (t : Bool). cond t (line_with (tag ++ fields wide zs)) []) h
 
-  pub line-none : lineFits (length tag) zs wide ≡ false → tagLine tag zs wide ≡ []
-  unfolding tagLine
-  line-none h = ap (λ (t : Bool). cond t (lineWith (tag ++ fields wide zs)) []) h
+  pub line_none : line_fits (length tag) zs wide ≡ false → tag_line tag zs wide ≡ []
+  unfolding tag_line
+  line_none h = ap (λ (t : Bool). cond t (line_with (tag ++ fields wide zs)) []) h
 
   -- a line has 84 bytes
-  pub length-line : lineFits (length tag) zs wide ≡ true → length (tagLine tag zs wide) ≡ 84
-  length-line h =
+  pub length_line : line_fits (length tag) zs wide ≡ true → length (tag_line tag zs wide) ≡ 84
+  length_line h =
       let f = fits_line tag zs wide h in
-      ap length (line-is h) ∙ length-with (tag ++ fields wide zs) (omega (arith, f.room, f.used))
+      ap length (line_is h) ∙ length_with (tag ++ fields wide zs) (omega (arith, f.room, f.used))

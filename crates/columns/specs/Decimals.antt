@@ -10,14 +10,14 @@ unfoldable pub blanks : ℕ → List ℕ
 blanks k = replicate k 32
 
 -- the decimal digits of n, f of them at most
-unfoldable pub digitsBy : ℕ → ℕ → List ℕ
-digitsBy zero n = []
-digitsBy (suc f) n = let front = digitsBy f (n / 10) in cond (ltb n 10) [] front ++ ((48 + n % 10) ∷ [])
+unfoldable pub digits_by : ℕ → ℕ → List ℕ
+digits_by zero n = []
+digits_by (suc f) n = let front = digits_by f (n / 10) in cond (ltb n 10) [] front ++ ((48 + n % 10) ∷ [])
 
 -- the decimal digits of n: no leading zero, and the digit 0 for 0
 unfoldable pub digits : ℕ → List ℕ
-unfolding digitsBy
-digits n = digitsBy (suc n) n
+unfolding digits_by
+digits n = digits_by (suc n) n
 
 -- z in decimal: a minus directly before the digits of a number below 0, and no plus; negsuc n is −(n + 1)
 unfoldable pub decimal : ℤ → List ℕ
@@ -25,8 +25,8 @@ decimal (pos n) = digits n
 decimal (negsuc n) = 45 ∷ digits (suc n)
 
 -- whether z fits k columns
-unfoldable pub fitsIn : ℕ → ℤ → Bool
-fitsIn k z = leb (length (decimal z)) k
+unfoldable pub fits_in : ℕ → ℤ → Bool
+fits_in k z = leb (length (decimal z)) k
 
 -- z right-justified in k columns, for a z that fits them
 unfoldable pub pad : ℕ → ℤ → List ℕ
@@ -47,13 +47,13 @@ value_of n [] = n
 value_of n (b ∷ bs) = value_of (10 * n + (b - 48)) bs
 
 -- whether a minus is among the bytes
-unfoldable pub hasMinus : List ℕ → Bool
-hasMinus [] = false
-hasMinus (b ∷ bs) = cond (eqb b 45) true (hasMinus bs)
+unfoldable pub has_minus : List ℕ → Bool
+has_minus [] = false
+has_minus (b ∷ bs) = cond (eqb b 45) true (has_minus bs)
 
 -- the only number that the bytes can be
 unfoldable pub candidate : List ℕ → ℤ
-candidate bs = cond (hasMinus bs) (neg_ℤ (pos (value_of 0 bs))) (pos (value_of 0 bs))
+candidate bs = cond (has_minus bs) (neg_ℤ (pos (value_of 0 bs))) (pos (value_of 0 bs))
 
 -- a field is a number exactly if its bytes are what writing that number in as many columns gives
 unfoldable pub field_of : List ℕ → Field

@@ -10,7 +10,7 @@ use Rattle.records.specs.declared.Kind.{Kind}
 use Rattle.records.specs.declared.Kind.TheVariants.{Record, Refused}
 use Rattle.columns.specs.declared.parser.TextLine.{TextLine}
 use Rattle.columns.specs.Decimals.{same, field_of}
-use Rattle.columns.specs.Lines.{lineEnd}
+use Rattle.columns.specs.Lines.{line_end}
 
 -- ---- tags
 
@@ -27,24 +27,24 @@ letters Fin = 70 ∷ 73 ∷ 78 ∷ []
 letters Ang = 65 ∷ 78 ∷ 71 ∷ []
 
 -- how many numbers follow a tag
-abbrev pub fieldCount : Tag → ℕ
-fieldCount Lin = 4
-fieldCount Sta = 10
-fieldCount Run = 1
-fieldCount Drr = 0
-fieldCount Drs = 0
-fieldCount End = 2
-fieldCount Spr = 4
-fieldCount Fin = 1
-fieldCount Ang = 6
+abbrev pub field_count : Tag → ℕ
+field_count Lin = 4
+field_count Sta = 10
+field_count Run = 1
+field_count Drr = 0
+field_count Drs = 0
+field_count End = 2
+field_count Spr = 4
+field_count Fin = 1
+field_count Ang = 6
 
 abbrev pub tags : List Tag
 tags = Lin ∷ Sta ∷ Run ∷ Drr ∷ Drs ∷ End ∷ Spr ∷ Fin ∷ Ang ∷ []
 
 -- the first of these tags with the letters w; any other letters are refused with 1
-unfoldable pub tagAmong : List Tag → List ℕ → Kind
-tagAmong [] w = Refused 1
-tagAmong (t ∷ ts) w = cond (same w (letters t)) (Record t) (tagAmong ts w)
+unfoldable pub tag_among : List Tag → List ℕ → Kind
+tag_among [] w = Refused 1
+tag_among (t ∷ ts) w = cond (same w (letters t)) (Record t) (tag_among ts w)
 
 -- ---- fields
 
@@ -52,19 +52,19 @@ abbrev pub is_number : Field → Bool
 is_number (Number z) = true
 is_number Bad = false
 
-abbrev pub fieldNumber : Field → ℤ
-fieldNumber (Number z) = z
-fieldNumber Bad = pos 0
+abbrev pub field_number : Field → ℤ
+field_number (Number z) = z
+field_number Bad = pos 0
 
 -- whether the n fields of eight columns at the start of t are numbers
-unfoldable pub allNumbers : ℕ → List ℕ → Bool
-allNumbers zero t = true
-allNumbers (suc n) t = cond (is_number (field_of (take 8 t))) (allNumbers n (drop 8 t)) false
+unfoldable pub all_numbers : ℕ → List ℕ → Bool
+all_numbers zero t = true
+all_numbers (suc n) t = cond (is_number (field_of (take 8 t))) (all_numbers n (drop 8 t)) false
 
 -- and these numbers
-unfoldable pub numbersIn : ℕ → List ℕ → List ℤ
-numbersIn zero t = []
-numbersIn (suc n) t = fieldNumber (field_of (take 8 t)) ∷ numbersIn n (drop 8 t)
+unfoldable pub numbers_in : ℕ → List ℕ → List ℤ
+numbers_in zero t = []
+numbers_in (suc n) t = field_number (field_of (take 8 t)) ∷ numbers_in n (drop 8 t)
 
 -- ---- lines
 
@@ -72,59 +72,59 @@ abbrev pub zeros : List ℤ
 zeros = replicate 10 (pos 0)
 
 -- a line refused with document 01's number k
-abbrev pub refusedLine : ℕ → TextLine
-refusedLine k = record { kind = Refused k; values = zeros }
+abbrev pub refused_line : ℕ → TextLine
+refused_line k = record { kind = Refused k; values = zeros }
 
 -- a record with the tag t and the numbers zs; the places past them are 0
-abbrev pub recordLine : Tag → List ℤ → TextLine
-recordLine t zs = record { kind = Record t; values = put_at zeros 0 zs }
+abbrev pub record_line : Tag → List ℤ → TextLine
+record_line t zs = record { kind = Record t; values = put_at zeros 0 zs }
 
 -- the tag with the numbers of the n fields at the start of t; refused with 2 where a field is not a number
-unfoldable pub numbersLine : Tag → ℕ → List ℕ → TextLine
-numbersLine tag n t = cond (allNumbers n t) (recordLine tag (numbersIn n t)) (refusedLine 2)
+unfoldable pub numbers_line : Tag → ℕ → List ℕ → TextLine
+numbers_line tag n t = cond (all_numbers n t) (record_line tag (numbers_in n t)) (refused_line 2)
 
 -- a line of a known tag, refused with 1 where anything but blanks up to column 83 and a line feed follows its last field: so a line has 84 bytes
-unfoldable pub recordIn : Tag → List ℕ → TextLine
-recordIn t l =
-    let n : ℕ = fieldCount t in
+unfoldable pub record_in : Tag → List ℕ → TextLine
+record_in t l =
+    let n : ℕ = field_count t in
     let from : ℕ = 3 + 8 * n in
-    cond (same (drop from l) (lineEnd from)) (numbersLine t n (drop 3 l)) (refusedLine 1)
+    cond (same (drop from l) (line_end from)) (numbers_line t n (drop 3 l)) (refused_line 1)
 
-abbrev pub lineOfKind : Kind → List ℕ → TextLine
-lineOfKind (Record t) l = recordIn t l
-lineOfKind (Refused k) l = refusedLine k
+abbrev pub line_of_kind : Kind → List ℕ → TextLine
+line_of_kind (Record t) l = record_in t l
+line_of_kind (Refused k) l = refused_line k
 
 -- a line of the text book
-unfoldable pub lineIn : List ℕ → TextLine
-lineIn l = lineOfKind (tagAmong tags (take 3 l)) l
+unfoldable pub line_in : List ℕ → TextLine
+line_in l = line_of_kind (tag_among tags (take 3 l)) l
 
 -- ---- what is answered of a line
 
 -- document 01's number of a line, 0 for a record, and the record's tag
-abbrev pub kindNumber : Kind → ℕ
-kindNumber (Record t) = 0
-kindNumber (Refused n) = n
+abbrev pub kind_number : Kind → ℕ
+kind_number (Record t) = 0
+kind_number (Refused n) = n
 
-abbrev pub kindTags : Kind → List Tag
-kindTags (Record t) = t ∷ []
-kindTags (Refused n) = []
+abbrev pub kind_tags : Kind → List Tag
+kind_tags (Record t) = t ∷ []
+kind_tags (Refused n) = []
 
 -- whether a line has the shape of its tag: blanks and a line feed behind the last field; a line without a tag has none
-abbrev pub hasShape : Kind → List ℕ → Bool
-hasShape (Record t) l = let from : ℕ = 3 + 8 * fieldCount t in same (drop from l) (lineEnd from)
-hasShape (Refused n) l = false
+abbrev pub has_shape : Kind → List ℕ → Bool
+has_shape (Record t) l = let from : ℕ = 3 + 8 * field_count t in same (drop from l) (line_end from)
+has_shape (Refused n) l = false
 
 -- whether each field of its tag is a number
-abbrev pub hasNumbers : Kind → List ℕ → Bool
-hasNumbers (Record t) l = allNumbers (fieldCount t) (drop 3 l)
-hasNumbers (Refused n) l = true
+abbrev pub has_numbers : Kind → List ℕ → Bool
+has_numbers (Record t) l = all_numbers (field_count t) (drop 3 l)
+has_numbers (Refused n) l = true
 
 -- document 01's tests of a line, in their order
-abbrev pub shapeTests : List ℕ → List (ℕ × Bool)
-shapeTests l = let k : Kind = tagAmong tags (take 3 l) in (1, not (hasShape k l)) ∷ (2, not (hasNumbers k l)) ∷ []
+abbrev pub shape_tests : List ℕ → List (ℕ × Bool)
+shape_tests l = let k : Kind = tag_among tags (take 3 l) in (1, not (has_shape k l)) ∷ (2, not (has_numbers k l)) ∷ []
 
--- r is the line that l is, and has, by `kindNumber` and `kindTags`, the number of the first test that holds, and its tag where none does
+-- r is the line that l is, and has, by `kind_number` and `kind_tags`, the number of the first test that holds, and its tag where none does
 abbrev pub Parses : List ℕ → TextLine → Type 0
 Parses l r =
-    let n : ℕ = first_of (shapeTests l) in
-    (r ≡ lineIn l) × ((kindNumber r.kind ≡ n) × (kindTags r.kind ≡ cond (eqb n 0) (kindTags (tagAmong tags (take 3 l))) []))
+    let n : ℕ = first_of (shape_tests l) in
+    (r ≡ line_in l) × ((kind_number r.kind ≡ n) × (kind_tags r.kind ≡ cond (eqb n 0) (kind_tags (tag_among tags (take 3 l))) []))

@@ -1,9 +1,9 @@
 // Lines of the text book, read.
 ghost use Rattle.std.specs.Prelude.{◌≡◌, cond, ◌+◌, ◌*◌, ◌≤◌, length, drop};
 ghost use Rattle.columns.specs.Decimals.{same, field_of};
-ghost use Rattle.columns.specs.code.Parser.{leadingBlanks, digitRun, naturalOf, negated};
-ghost use Rattle.columns.specs.Lines.{lineEnd, heading};
-ghost use Rattle.columns.specs.Records.{tags, tagAmong, fieldCount, numbersLine, refusedLine, recordIn, Parses};
+ghost use Rattle.columns.specs.code.Parser.{leading_blanks, digit_run, natural_of, negated};
+ghost use Rattle.columns.specs.Lines.{line_end, heading};
+ghost use Rattle.columns.specs.Records.{tags, tag_among, field_count, numbers_line, refused_line, record_in, Parses};
 
 use super::bytes::same_bytes;
 use records::{Kind, Tag};
@@ -26,7 +26,7 @@ pub struct TextLine {
 #[tactic(auto, using(crate::proofs::Sets::digit_run))]
 fn digit_run(bs: &[u8]) -> Field
     requires { length bs.now ≤ 18 }
-    ensures { result ≡ digitRun bs.now }
+    ensures { result ≡ digit_run bs.now }
 {
     let mut n: u64 = 0;
     for i in 0..bs.len() {
@@ -46,7 +46,7 @@ fn digit_run(bs: &[u8]) -> Field
 #[tactic(auto, using(crate::proofs::Sets::natural))]
 fn natural(bs: &[u8]) -> Field
     requires { length bs.now ≤ 18 }
-    ensures { result ≡ naturalOf bs.now }
+    ensures { result ≡ natural_of bs.now }
 {
     if bs.len() == 0 {
         return Field::Bad;
@@ -74,7 +74,7 @@ fn negate(f: Field) -> Field
 // How many blanks a field begins with.
 #[tactic(auto, using(crate::proofs::Sets::count_blanks))]
 fn count_blanks(bs: &[u8]) -> usize
-    ensures { result ≡ leadingBlanks bs.now }
+    ensures { result ≡ leading_blanks bs.now }
 {
     for i in 0..bs.len() {
         if bs[i] != b' ' {
@@ -103,7 +103,7 @@ fn read_field(bs: &[u8]) -> Field
 
 // A line refused with this number of document 01.
 fn refused(number: u8) -> TextLine
-    ensures { result ≡ refusedLine number }
+    ensures { result ≡ refused_line number }
 {
     TextLine {
         kind: Kind::Refused(number),
@@ -115,7 +115,7 @@ fn refused(number: u8) -> TextLine
 #[tactic(auto, using(crate::proofs::Sets::read_numbers))]
 fn read_numbers(line: &[u8], tag: Tag, n: usize) -> TextLine
     requires { (n ≤ 10) × (3 + 8 * n ≤ length line.now) }
-    ensures { result ≡ numbersLine tag n (drop 3 line.now) }
+    ensures { result ≡ numbers_line tag n (drop 3 line.now) }
 {
     let mut values = [0i64; 10];
     for i in 0..n {
@@ -135,7 +135,7 @@ fn read_numbers(line: &[u8], tag: Tag, n: usize) -> TextLine
 
 // How many numbers follow a tag.
 fn field_count(tag: Tag) -> usize
-    ensures { result ≡ fieldCount tag }
+    ensures { result ≡ field_count tag }
 {
     match tag {
         Tag::Lin => 4,
@@ -162,9 +162,9 @@ fn tag_or(w: &[u8], letters: &[u8; 3], tag: Tag, otherwise: Kind) -> Kind
 }
 
 // The tag with these letters: the last of `tags` is tried first, so that the first that fits is left.
-#[tactic(auto, unfolding(crate::specs::Records::tagAmong))]
+#[tactic(auto, unfolding(crate::specs::Records::tag_among))]
 fn find_tag(w: &[u8]) -> Kind
-    ensures { result ≡ tagAmong tags w.now }
+    ensures { result ≡ tag_among tags w.now }
 {
     let mut kind = Kind::Refused(1);
     kind = tag_or(w, b"ANG", Tag::Ang, kind);
@@ -180,10 +180,10 @@ fn find_tag(w: &[u8]) -> Kind
 }
 
 // Whether a line ends in blanks up to column 83 and a line feed from index `from` on.
-#[tactic(auto, using(crate::proofs::Sets::ends_from), unfolding(crate::specs::Lines::lineEnd, crate::specs::Decimals::blanks))]
+#[tactic(auto, using(crate::proofs::Sets::ends_from), unfolding(crate::specs::Lines::line_end, crate::specs::Decimals::blanks))]
 fn ends_from(line: &[u8], from: usize) -> bool
     requires { (from ≤ 83) × (length line.now ≡ 84) }
-    ensures { result ≡ same (drop from line.now) (lineEnd from) }
+    ensures { result ≡ same (drop from line.now) (line_end from) }
 {
     let blank: &[u8] =
         b"                                                                                   \n";
@@ -191,10 +191,10 @@ fn ends_from(line: &[u8], from: usize) -> bool
 }
 
 // A line of 84 bytes with a known tag.
-#[tactic(auto, unfolding(crate::specs::Records::recordIn))]
+#[tactic(auto, unfolding(crate::specs::Records::record_in))]
 fn read_record(line: &[u8], tag: Tag) -> TextLine
     requires { length line.now ≡ 84 }
-    ensures { result ≡ recordIn tag line.now }
+    ensures { result ≡ record_in tag line.now }
 {
     let n = field_count(tag);
     if ends_from(line, 3 + 8 * n) {
@@ -219,7 +219,7 @@ pub fn parse_line(line: &[u8]) -> TextLine
 }
 
 // Whether a line is the heading of the text book.
-#[tactic(auto, unfolding(crate::specs::Lines::heading, crate::specs::Lines::lineWith, crate::specs::Lines::lineEnd, crate::specs::Decimals::blanks))]
+#[tactic(auto, unfolding(crate::specs::Lines::heading, crate::specs::Lines::line_with, crate::specs::Lines::line_end, crate::specs::Decimals::blanks))]
 pub fn is_heading(line: &[u8]) -> bool
     ensures { result ≡ same line.now heading }
 {

@@ -2,8 +2,8 @@
 ghost use Rattle.std.specs.Prelude.{◌≡◌, true, false, ◌&&◌, ◌++◌, ◌+◌, ◌-◌, ◌≤◌, leb, length};
 ghost use Rattle.numbers.specs.Numbers.{put_at};
 ghost use Rattle.columns.specs.Buffers.{placed};
-ghost use Rattle.columns.specs.Decimals.{blanks, digits, decimal, fitsIn, pad};
-ghost use Rattle.columns.specs.Lines.{width_of, fields, all_fit, columnsOf, lineFits, lineWith, tagLine, is_wide, title};
+ghost use Rattle.columns.specs.Decimals.{blanks, digits, decimal, fits_in, pad};
+ghost use Rattle.columns.specs.Lines.{width_of, fields, all_fit, columns_of, line_fits, line_with, tag_line, is_wide, title};
 
 use roots::limits::magnitude;
 
@@ -44,9 +44,9 @@ fn count_digits(x: u64) -> usize
 }
 
 // Whether x fits k columns.
-#[tactic(auto, using(crate::proofs::Sets::fits), unfolding(crate::specs::Decimals::fitsIn))]
+#[tactic(auto, using(crate::proofs::Sets::fits), unfolding(crate::specs::Decimals::fits_in))]
 pub fn fits(x: i64, k: usize) -> bool
-    ensures { result ≡ fitsIn k x }
+    ensures { result ≡ fits_in k x }
 {
     let n = count_digits(magnitude(x));
     if x < 0 { n < k } else { n <= k }
@@ -88,7 +88,7 @@ fn put_decimal(buf: &mut [u8], end: usize, x: i64) -> usize
 // x right-justified in k columns from index at on.
 #[tactic(auto, using(crate::proofs::Sets::put_number))]
 fn put_number(buf: &mut [u8], at: usize, x: i64, k: usize)
-    requires { (fitsIn k x ≡ true) × (at + k ≤ length buf.old) }
+    requires { (fits_in k x ≡ true) × (at + k ≤ length buf.old) }
     ensures { buf.new ≡ put_at buf.old at (pad k x) }
 {
     let first = put_decimal(buf, at + k, x);
@@ -107,10 +107,10 @@ fn width_of(wide: bool, after: usize) -> usize
 }
 
 // The columns of n fields.
-#[tactic(auto, using(crate::proofs::Sets::columns_of), unfolding(crate::specs::Lines::columnsOf))]
+#[tactic(auto, using(crate::proofs::Sets::columns_of), unfolding(crate::specs::Lines::columns_of))]
 fn columns_of(wide: bool, n: usize) -> usize
     requires { n ≤ 10 }
-    ensures { result ≡ columnsOf wide n }
+    ensures { result ≡ columns_of wide n }
 {
     if n == 0 {
         return 0;
@@ -134,7 +134,7 @@ fn all_fit(numbers: &[i64], wide: bool) -> bool
 // Whether a line has room for a tag of this length and the numbers, and each number fits its field.
 #[tactic(auto, using(crate::proofs::Sets::line_fits))]
 fn line_fits(letters: usize, numbers: &[i64], wide: bool) -> bool
-    ensures { result ≡ lineFits letters numbers.now wide }
+    ensures { result ≡ line_fits letters numbers.now wide }
 {
     if 83 < letters {
         return false;
@@ -152,7 +152,7 @@ fn line_fits(letters: usize, numbers: &[i64], wide: bool) -> bool
 #[tactic(auto, using(crate::proofs::Sets::put_fields), unfolding(crate::specs::Lines::fields))]
 fn put_fields(buf: &mut [u8], at: usize, numbers: &[i64], wide: bool)
     requires numbers_value { all_fit wide numbers.now ≡ true }
-    requires numbers_in_bounds { at + columnsOf wide (length numbers.now) ≤ length buf.old }
+    requires numbers_in_bounds { at + columns_of wide (length numbers.now) ≤ length buf.old }
     ensures { buf.new ≡ put_at buf.old at (fields wide numbers.now) }
 {
     let mut next = at;
@@ -164,11 +164,11 @@ fn put_fields(buf: &mut [u8], at: usize, numbers: &[i64], wide: bool)
 }
 
 // The line of a tag and numbers that fit it, where the buffer has room for it.
-#[tactic(auto, using(crate::proofs::Sets::write_line), unfolding(crate::specs::Lines::lineEnd, crate::specs::Decimals::blanks))]
+#[tactic(auto, using(crate::proofs::Sets::write_line), unfolding(crate::specs::Lines::line_end, crate::specs::Decimals::blanks))]
 fn write_line(buf: &mut [u8], at: usize, tag: &[u8], numbers: &[i64], wide: bool)
-    requires wide_value { lineFits (length tag.now) numbers.now wide ≡ true }
+    requires wide_value { line_fits (length tag.now) numbers.now wide ≡ true }
     requires at_in_bounds { at + 84 ≤ length buf.old }
-    ensures { buf.new ≡ put_at buf.old at (lineWith (tag.now ++ fields wide numbers.now)) }
+    ensures { buf.new ≡ put_at buf.old at (line_with (tag.now ++ fields wide numbers.now)) }
 {
     let letters = tag.len();
     let used = letters + columns_of(wide, numbers.len());
@@ -183,8 +183,8 @@ fn write_line(buf: &mut [u8], at: usize, tag: &[u8], numbers: &[i64], wide: bool
 // buffer has no room.
 #[tactic(auto, using(crate::proofs::Sets::put_line))]
 pub fn put_line(buf: &mut [u8], at: usize, tag: &[u8], numbers: &[i64], wide: bool) -> bool
-    ensures value { result ≡ lineFits (length tag.now) numbers.now wide && leb (at + 84) (length buf.old) }
-    ensures buf_after { buf.new ≡ placed buf.old at (tagLine tag.now numbers.now wide) }
+    ensures value { result ≡ line_fits (length tag.now) numbers.now wide && leb (at + 84) (length buf.old) }
+    ensures buf_after { buf.new ≡ placed buf.old at (tag_line tag.now numbers.now wide) }
 {
     if !line_fits(tag.len(), numbers, wide) {
         return false;
@@ -200,7 +200,7 @@ pub fn put_line(buf: &mut [u8], at: usize, tag: &[u8], numbers: &[i64], wide: bo
 }
 
 // The report's title from index at on: whether the buffer had room for it.
-#[tactic(auto, unfolding(crate::specs::Lines::title, crate::specs::Lines::tagLine, crate::specs::Lines::lineFits, crate::specs::Lines::columnsOf, crate::specs::Lines::all_fit, crate::specs::Lines::fields))]
+#[tactic(auto, unfolding(crate::specs::Lines::title, crate::specs::Lines::tag_line, crate::specs::Lines::line_fits, crate::specs::Lines::columns_of, crate::specs::Lines::all_fit, crate::specs::Lines::fields))]
 pub fn put_title(buf: &mut [u8], at: usize) -> bool
     ensures value { result ≡ leb (at + 84) (length buf.old) }
     ensures buf_after { buf.new ≡ placed buf.old at title }

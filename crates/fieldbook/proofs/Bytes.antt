@@ -8,20 +8,20 @@ use borrow.Author.Tests.{ltb-false}
 use lib.ListN.{length, take, drop, length-append, length-drop, length-map}
 use lib.IntN.{ℤ, pos, ◌*ℤ◌}
 use Rattle.adjust.specs.declared.Point.{Point}
-use Rattle.adjust.specs.Line.{lineFrame, Closing}
-use Rattle.adjust.proofs.Lists.{points-length}
+use Rattle.adjust.specs.Line.{line_frame, Closing}
+use Rattle.adjust.proofs.Lists.{points_length}
 use Rattle.columns.specs.Decimals.{same}
-use Rattle.columns.specs.Lines.{fields, lineFits, lineWith, tagLine, is_wide, heading}
-use Rattle.columns.specs.Texts.{linesBy, lines, joined}
-use Rattle.columns.proofs.Lines.{length-with, length-title, fits_line}
+use Rattle.columns.specs.Lines.{fields, line_fits, line_with, tag_line, is_wide, heading}
+use Rattle.columns.specs.Texts.{lines_by, lines, joined}
+use Rattle.columns.proofs.Lines.{length_with, length_title, fits_line}
 use Rattle.rules.specs.declared.Stage.{Stage}
 use Rattle.rules.specs.declared.Stage.TheVariants.{Fresh, Open, Closed}
-use Rattle.rules.specs.LineState.{isClosed}
-use Rattle.ledger.specs.Plain.{Reading, freshReading, sectionOf, figuresOf}
-use Rattle.textbook.specs.Text.{Refusal, mostText, tooLong, lineRefusals, refusalsFrom, readingAfter}
-use Rattle.fieldbook.specs.Report.{refLine, closedNumbers, pointNumbers, pointLine, openLine, closingLines, resultLines, reportOf, withoutHeading, reportLines, report}
+use Rattle.rules.specs.LineState.{is_closed}
+use Rattle.ledger.specs.Plain.{Reading, fresh_reading, section_of, figures_of}
+use Rattle.textbook.specs.Text.{Refusal, most_text, too_long, line_refusals, refusals_from, reading_after}
+use Rattle.fieldbook.specs.Report.{ref_line, closed_numbers, point_numbers, point_line, opn_line, closing_lines, result_lines, report_of, without_heading, report_lines, report}
 use Rattle.fieldbook.specs.Fits.{ReportFits, PrintedFits}
-use Rattle.fieldbook.proofs.Size.{stageLines, waitingLines, least, lines-count}
+use Rattle.fieldbook.proofs.Size.{stage_lines, waiting_lines, least, lines_count}
 
 -- ---- lines of 84 bytes
 
@@ -29,98 +29,98 @@ abbrev Short : List (List ℕ) → Type 0
 Short [] = Unit {0}
 Short (l ∷ ls) = (length l ≤ 84) × Short ls
 
-joined-short : (ls : List (List ℕ)) → Short ls → length (joined ls) ≤ 84 * length ls
+joined_short : (ls : List (List ℕ)) → Short ls → length (joined ls) ≤ 84 * length ls
 unfolding joined
-joined-short [] s = omega arith
-joined-short (l ∷ ls) s = omega (arith, length-append l (joined ls), s.0, joined-short ls s.1)
+joined_short [] s = omega arith
+joined_short (l ∷ ls) s = omega (arith, length-append l (joined ls), s.0, joined_short ls s.1)
 
-pub tag-short : (tag : List ℕ) (zs : List ℤ) (wide : Bool) → length (tagLine tag zs wide) ≤ 84
-unfolding tagLine
-tag-short tag zs wide = go (lineFits (length tag) zs wide) refl
+pub tag_short : (tag : List ℕ) (zs : List ℤ) (wide : Bool) → length (tag_line tag zs wide) ≤ 84
+unfolding tag_line
+tag_short tag zs wide = go (line_fits (length tag) zs wide) refl
   where
-    go : (b : Bool) → lineFits (length tag) zs wide ≡ b → length (cond b (lineWith (tag ++ fields wide zs)) []) ≤ 84
-    go true e = let f = fits_line tag zs wide e in omega (arith, length-with (tag ++ fields wide zs) (omega (arith, f.room, f.used)))
+    go : (b : Bool) → line_fits (length tag) zs wide ≡ b → length (cond b (line_with (tag ++ fields wide zs)) []) ≤ 84
+    go true e = let f = fits_line tag zs wide e in omega (arith, length_with (tag ++ fields wide zs) (omega (arith, f.room, f.used)))
     go false e = omega arith
 
-map-short : {A : Type 0} (f : A → List ℕ) → ((x : A) → length (f x) ≤ 84) → (xs : List A) → Short (map f xs)
-map-short f h [] = tt
-map-short f h (x ∷ xs) = (h x, map-short f h xs)
+map_short : {A : Type 0} (f : A → List ℕ) → ((x : A) → length (f x) ≤ 84) → (xs : List A) → Short (map f xs)
+map_short f h [] = tt
+map_short f h (x ∷ xs) = (h x, map_short f h xs)
 
-append-short : (xs ys : List (List ℕ)) → Short xs → Short ys → Short (xs ++ ys)
-append-short [] ys s t = t
-append-short (x ∷ xs) ys s t = (s.0, append-short xs ys s.1 t)
+append_short : (xs ys : List (List ℕ)) → Short xs → Short ys → Short (xs ++ ys)
+append_short [] ys s t = t
+append_short (x ∷ xs) ys s t = (s.0, append_short xs ys s.1 t)
 
 -- ---- the lines of a report
 
-ref-short : (x : Refusal) → length (refLine x) ≤ 84
-ref-short x = tag-short (82 ∷ 69 ∷ 70 ∷ []) (pos x.line ∷ pos x.number ∷ []) false
+ref_short : (x : Refusal) → length (ref_line x) ≤ 84
+ref_short x = tag_short (82 ∷ 69 ∷ 70 ∷ []) (pos x.line ∷ pos x.number ∷ []) false
 
-point-short : (p : Point) → length (pointLine p) ≤ 84
-point-short p = tag-short (80 ∷ 78 ∷ 84 ∷ []) (pointNumbers p) (is_wide p.height)
+point_short : (p : Point) → length (point_line p) ≤ 84
+point_short p = tag_short (80 ∷ 78 ∷ 84 ∷ []) (point_numbers p) (is_wide p.height)
 
-closing-short : (c : Closing) → Short (closingLines c)
-closing-short c =
+closing_short : (c : Closing) → Short (closing_lines c)
+closing_short c =
     let s = c.summary in
-    (tag-short (67 ∷ 76 ∷ 79 ∷ []) (closedNumbers s) false, map-short pointLine point-short c.points)
+    (tag_short (67 ∷ 76 ∷ 79 ∷ []) (closed_numbers s) false, map_short point_line point_short c.points)
 
-result-short : (r : Reading) → Short (resultLines r)
-result-short r = go (isClosed r.stage)
+result_short : (r : Reading) → Short (result_lines r)
+result_short r = go (is_closed r.stage)
   where
-    go : (b : Bool) → Short (cond b (closingLines (figuresOf r)) (openLine (length r.sections) ∷ []))
-    go true = closing-short (figuresOf r)
-    go false = (tag-short (79 ∷ 80 ∷ 78 ∷ []) (pos (length r.sections) ∷ []) false, tt)
+    go : (b : Bool) → Short (cond b (closing_lines (figures_of r)) (opn_line (length r.sections) ∷ []))
+    go true = closing_short (figures_of r)
+    go false = (tag_short (79 ∷ 80 ∷ 78 ∷ []) (pos (length r.sections) ∷ []) false, tt)
 
 -- a line for each section and two more
-closing-count : (r : Reading) → length (closingLines (figuresOf r)) ≡ suc (suc (length r.sections))
-closing-count r =
-    let ss = map (sectionOf r.opening.staffs) r.sections in
-    let f = lineFrame r.opening r.end ss in
-    ap suc (length-map (figuresOf r).points pointLine) ∙ ap (λ (n : ℕ). suc (suc n)) (points-length f (pos 0) (pos 0) (f.prints *ℤ f.start) ss ∙ length-map r.sections (sectionOf r.opening.staffs))
+closing_count : (r : Reading) → length (closing_lines (figures_of r)) ≡ suc (suc (length r.sections))
+closing_count r =
+    let ss = map (section_of r.opening.staffs) r.sections in
+    let f = line_frame r.opening r.end ss in
+    ap suc (length-map (figures_of r).points point_line) ∙ ap (λ (n : ℕ). suc (suc n)) (points_length f (pos 0) (pos 0) (f.prints *ℤ f.start) ss ∙ length-map r.sections (section_of r.opening.staffs))
 
-result-few : (r : Reading) → length (resultLines r) ≤ least r + 1
-result-few r = go r.stage
+result_few : (r : Reading) → length (result_lines r) ≤ least r + 1
+result_few r = go r.stage
   where
-    go : (s : Stage) → length (cond (isClosed s) (closingLines (figuresOf r)) (openLine (length r.sections) ∷ []))
-        ≤ stageLines s + 3 * length r.sections + waitingLines r.waiting + length r.present + 1
+    go : (s : Stage) → length (cond (is_closed s) (closing_lines (figures_of r)) (opn_line (length r.sections) ∷ []))
+        ≤ stage_lines s + 3 * length r.sections + waiting_lines r.waiting + length r.present + 1
     go Fresh = omega arith
     go Open = omega arith
-    go Closed = omega (arith, closing-count r)
+    go Closed = omega (arith, closing_count r)
 
-report-short : (refusals : List Refusal) (r : Reading) → Short (reportOf refusals r)
-report-short refusals r = (omega (arith, length-title), append-short (map refLine refusals) (resultLines r) (map-short refLine ref-short refusals) (result-short r))
+report_short : (refusals : List Refusal) (r : Reading) → Short (report_of refusals r)
+report_short refusals r = (omega (arith, length_title), append_short (map ref_line refusals) (result_lines r) (map_short ref_line ref_short refusals) (result_short r))
 
-report-few : (refusals : List Refusal) (r : Reading) → length (reportOf refusals r) ≤ 2 + length refusals + least r
-report-few refusals r = omega (arith, length-append (map refLine refusals) (resultLines r), length-map refusals refLine, result-few r)
+report_few : (refusals : List Refusal) (r : Reading) → length (report_of refusals r) ≤ 2 + length refusals + least r
+report_few refusals r = omega (arith, length-append (map ref_line refusals) (result_lines r), length-map refusals ref_line, result_few r)
 
 -- ---- the lines of a text
 
-pub text-lines : (f : ℕ) (t : List ℕ) → 84 * length (linesBy f t) ≤ length t + 83
-unfolding linesBy
-text-lines zero t = omega arith
-text-lines (suc f) [] = omega arith
-text-lines (suc f) (b ∷ t) = omega (arith, text-lines f (drop 84 (b ∷ t)), length-drop 84 (b ∷ t))
+pub text_lines : (f : ℕ) (t : List ℕ) → 84 * length (lines_by f t) ≤ length t + 83
+unfolding lines_by
+text_lines zero t = omega arith
+text_lines (suc f) [] = omega arith
+text_lines (suc f) (b ∷ t) = omega (arith, text_lines f (drop 84 (b ∷ t)), length-drop 84 (b ∷ t))
 
 -- ---- both
 
-bytes : (refusals : List Refusal) (r : Reading) → length refusals + least r ≤ 776 → length (joined (reportOf refusals r)) ≤ 65536
-bytes refusals r h = omega (arith, joined-short (reportOf refusals r) (report-short refusals r), report-few refusals r)
+bytes : (refusals : List Refusal) (r : Reading) → length refusals + least r ≤ 776 → length (joined (report_of refusals r)) ≤ 65536
+bytes refusals r h = omega (arith, joined_short (report_of refusals r) (report_short refusals r), report_few refusals r)
 
-lines_fit : (ls : List (List ℕ)) → length ls ≤ 777 → length (joined (reportLines ls)) ≤ 65536
-lines_fit [] h = bytes (record { line = 1; number = 1 } ∷ []) freshReading (omega arith)
+lines_fit : (ls : List (List ℕ)) → length ls ≤ 777 → length (joined (report_lines ls)) ≤ 65536
+lines_fit [] h = bytes (record { line = 1; number = 1 } ∷ []) fresh_reading (omega arith)
 lines_fit (l ∷ ls) h = go (same l heading)
   where
-    go : (b : Bool) → length (joined (cond b (reportOf (refusalsFrom 2 (lineRefusals freshReading ls)) (readingAfter freshReading ls)) withoutHeading)) ≤ 65536
-    go true = bytes (refusalsFrom 2 (lineRefusals freshReading ls)) (readingAfter freshReading ls) (omega (arith, lines-count 2 freshReading ls))
-    go false = bytes (record { line = 1; number = 1 } ∷ []) freshReading (omega arith)
+    go : (b : Bool) → length (joined (cond b (report_of (refusals_from 2 (line_refusals fresh_reading ls)) (reading_after fresh_reading ls)) without_heading)) ≤ 65536
+    go true = bytes (refusals_from 2 (line_refusals fresh_reading ls)) (reading_after fresh_reading ls) (omega (arith, lines_count 2 fresh_reading ls))
+    go false = bytes (record { line = 1; number = 1 } ∷ []) fresh_reading (omega arith)
 
-pub report-fits : ReportFits
+pub report_fits : ReportFits
 unfolding report lines
-report-fits text h = lines_fit (lines text) (omega (arith, text-lines (length text) text))
+report_fits text h = lines_fit (lines text) (omega (arith, text_lines (length text) text))
 
-pub printed-fits : PrintedFits
-printed-fits input n true = omega arith
-printed-fits input n false = go (tooLong (take n input)) refl
+pub printed_fits : PrintedFits
+printed_fits input n true = omega arith
+printed_fits input n false = go (too_long (take n input)) refl
   where
-    go : (b : Bool) → tooLong (take n input) ≡ b → length (cond b (refLine (record { line = 0; number = 9 })) (report (take n input))) ≤ 65536
-    go true e = omega (arith, ref-short (record { line = 0; number = 9 }))
-    go false e = report-fits (take n input) (ltb-false mostText (length (take n input)) e)
+    go : (b : Bool) → too_long (take n input) ≡ b → length (cond b (ref_line (record { line = 0; number = 9 })) (report (take n input))) ≤ 65536
+    go true e = omega (arith, ref_short (record { line = 0; number = 9 }))
+    go false e = report_fits (take n input) (ltb-false most_text (length (take n input)) e)

@@ -15,71 +15,71 @@ use Rattle.rules.specs.declared.Stage.{Stage}
 use Rattle.rules.specs.declared.Stage.TheVariants.{Fresh, Open, Closed}
 use Rattle.rules.specs.declared.Book.{Book}
 use Rattle.rules.specs.Rules.{Call}
-use Rattle.rules.specs.LineState.{isClosed}
-use Rattle.ledger.specs.Plain.{Reading, freshReading, after, sectionOf, figuresOf}
+use Rattle.rules.specs.LineState.{is_closed}
+use Rattle.ledger.specs.Plain.{Reading, fresh_reading, after, section_of, figures_of}
 use Rattle.ledger.specs.Trace.{SoundTrace}
-use Rattle.ledger.proofs.Every.{every-list, same-figures, none-given}
-use Rattle.ledger.proofs.Kept.{open-not-closed, fresh-not-closed}
-use Rattle.ledger.proofs.Traced.{every-trace}
-use Rattle.ledger.proofs.Entries.{reading-calls, numbers-calls}
-use Rattle.textbook.specs.Text.{entries, lineRefusals, readingAfter, calls_of, refusalsFrom}
-use Rattle.fieldbook.specs.Report.{refLine, closingLines, openLine, reportOf, withoutHeading, resultLines, reportLines, report, bufferAfter}
-use Rattle.fieldbook.specs.Claims.{madeLines, EveryText, TextAsMade, EveryReport}
+use Rattle.ledger.proofs.Every.{every_list, same_figures, none_given}
+use Rattle.ledger.proofs.Kept.{open_not_closed, fresh_not_closed}
+use Rattle.ledger.proofs.Traced.{every_trace}
+use Rattle.ledger.proofs.Entries.{reading_calls, numbers_calls}
+use Rattle.textbook.specs.Text.{entries, line_refusals, reading_after, calls_of, refusals_from}
+use Rattle.fieldbook.specs.Report.{ref_line, closing_lines, opn_line, report_of, without_heading, result_lines, report_lines, report, buffer_after}
+use Rattle.fieldbook.specs.Claims.{made_lines, EveryText, TextAsMade, EveryReport}
 
-pub every-text : EveryText
-every-text ls e =
-    let r : Reading = readingAfter freshReading ls in
-    let same = reading-calls freshReading (entries ls) in
+pub every_text : EveryText
+every_text ls e =
+    let r : Reading = reading_after fresh_reading ls in
+    let same = reading_calls fresh_reading (entries ls) in
     let shut = sym (ap (λ (s : Reading). s.stage) same) ∙ e in
     record {
-      closing = every-list (calls_of ls) shut;
+      closing = every_list (calls_of ls) shut;
       printed =
-          ap (λ (s : Stage). cond (isClosed s) (closingLines (figuresOf r)) (openLine (length r.sections) ∷ [])) e
-          ∙ ap closingLines (ap figuresOf same ∙ same-figures (calls_of ls) shut);
+          ap (λ (s : Stage). cond (is_closed s) (closing_lines (figures_of r)) (opn_line (length r.sections) ∷ [])) e
+          ∙ ap closing_lines (ap figures_of same ∙ same_figures (calls_of ls) shut);
     }
 
-pub text-as-made : TextAsMade
+pub text_as_made : TextAsMade
 unfolding holding
-text-as-made ls b e ns gs f t = (numbers-calls freshReading (entries ls) ∙ sym sound.numbers, go r.stage refl)
+text_as_made ls b e ns gs f t = (numbers_calls fresh_reading (entries ls) ∙ sym sound.numbers, go r.stage refl)
   where
     calls : List Call
     calls = calls_of ls
 
     r : Reading
-    r = readingAfter freshReading ls
+    r = reading_after fresh_reading ls
 
-    same : r ≡ after freshReading calls
-    same = reading-calls freshReading (entries ls)
+    same : r ≡ after fresh_reading calls
+    same = reading_calls fresh_reading (entries ls)
 
     sound : SoundTrace calls ns gs e
-    sound = every-trace b e calls ns gs f t
+    sound = every_trace b e calls ns gs f t
 
     -- a line that is not closed gave nothing, and the book counts its sections
-    open_made : isClosed r.stage ≡ false → (r.stage ≡ Closed → ⊥) → resultLines r ≡ madeLines gs e
+    open_made : is_closed r.stage ≡ false → (r.stage ≡ Closed → ⊥) → result_lines r ≡ made_lines gs e
     open_made k n =
-        ap (λ (x : Bool). cond x (closingLines (figuresOf r)) (openLine (length r.sections) ∷ [])) k
-        ∙ ap (λ (m : ℕ). openLine m ∷ [])
-        (ap (λ (s : Reading). length s.sections) same ∙ sym (length-map (after freshReading calls).sections (sectionOf (after freshReading calls).opening.staffs)) ∙ ap (λ (x : Book). x.sections.count) (sym sound.book))
-        ∙ ap (λ (l : List Closing). madeLines l e) (sym (sound.given ∙ none-given calls freshReading (λ c. n (ap (λ (s : Reading). s.stage) same ∙ c))))
+        ap (λ (x : Bool). cond x (closing_lines (figures_of r)) (opn_line (length r.sections) ∷ [])) k
+        ∙ ap (λ (m : ℕ). opn_line m ∷ [])
+        (ap (λ (s : Reading). length s.sections) same ∙ sym (length-map (after fresh_reading calls).sections (section_of (after fresh_reading calls).opening.staffs)) ∙ ap (λ (x : Book). x.sections.count) (sym sound.book))
+        ∙ ap (λ (l : List Closing). made_lines l e) (sym (sound.given ∙ none_given calls fresh_reading (λ c. n (ap (λ (s : Reading). s.stage) same ∙ c))))
 
-    go : (s : Stage) → r.stage ≡ s → resultLines r ≡ madeLines gs e
+    go : (s : Stage) → r.stage ≡ s → result_lines r ≡ made_lines gs e
     go Closed k =
-        let p = every-text ls k in
-        p.printed ∙ ap (λ (l : List Closing). madeLines l e) (sym (sound.given ∙ p.closing.once))
-    go Open k = open_made (ap isClosed k) (λ c. open-not-closed (sym k ∙ c))
-    go Fresh k = open_made (ap isClosed k) (λ c. fresh-not-closed (sym k ∙ c))
+        let p = every_text ls k in
+        p.printed ∙ ap (λ (l : List Closing). made_lines l e) (sym (sound.given ∙ p.closing.once))
+    go Open k = open_made (ap is_closed k) (λ c. open_not_closed (sym k ∙ c))
+    go Fresh k = open_made (ap is_closed k) (λ c. fresh_not_closed (sym k ∙ c))
 
-pub every-report : EveryReport
-unfolding bufferAfter report
-every-report text buffer taken ls e shut =
-    let p = every-text ls shut in
-    let r : Reading = readingAfter freshReading ls in
-    let refusals = refusalsFrom 2 (lineRefusals freshReading ls) in
+pub every_report : EveryReport
+unfolding buffer_after report
+every_report text buffer taken ls e shut =
+    let p = every_text ls shut in
+    let r : Reading = reading_after fresh_reading ls in
+    let refusals = refusals_from 2 (line_refusals fresh_reading ls) in
     record {
       closing = p.closing;
       bytes =
-          ap (λ (n : ℕ). cond (ltb 0 n) buffer (put_at buffer 0 (joined (reportLines (lines text))))) taken
-          ∙ ap (λ (x : List (List ℕ)). put_at buffer 0 (joined (reportLines x))) e
-          ∙ ap (λ (b : Bool). put_at buffer 0 (joined (cond b (reportOf refusals r) withoutHeading))) (same_refl heading)
-          ∙ ap (λ (x : List (List ℕ)). put_at buffer 0 (joined (title ∷ (map refLine refusals ++ x)))) p.printed;
+          ap (λ (n : ℕ). cond (ltb 0 n) buffer (put_at buffer 0 (joined (report_lines (lines text))))) taken
+          ∙ ap (λ (x : List (List ℕ)). put_at buffer 0 (joined (report_lines x))) e
+          ∙ ap (λ (b : Bool). put_at buffer 0 (joined (cond b (report_of refusals r) without_heading))) (same_refl heading)
+          ∙ ap (λ (x : List (List ℕ)). put_at buffer 0 (joined (title ∷ (map ref_line refusals ++ x)))) p.printed;
     }

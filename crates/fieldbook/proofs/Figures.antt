@@ -11,21 +11,21 @@ use lib.Signed.{◌≤ℤ◌, le_z}
 use Rattle.numbers.specs.Numbers.{sum, within}
 use Rattle.numbers.proofs.Tests.{and_l, and_r}
 use Rattle.numbers.proofs.All.{All, all_head}
-use Rattle.numbers.proofs.Parts.{ints, negPart, parts_add, parts-sub, parts-times, parts-abs}
-use Rattle.numbers.proofs.Sizes.{abs-add, abs-sub, abs-mul, square-abs, within-size}
+use Rattle.numbers.proofs.Parts.{ints, neg_part, parts_add, parts_sub, parts_times, parts_abs}
+use Rattle.numbers.proofs.Sizes.{abs_add, abs_sub, abs_mul, square_abs, within_size}
 use Rattle.roots.proofs.RoundLaws.{round_mono, round_exact}
 use Rattle.station.specs.declared.Staffs.TheVariants.{Nominal}
 use Rattle.adjust.specs.declared.terms.Class.{Class}
 use Rattle.adjust.specs.declared.terms.Class.TheVariants.{Third, Fourth, Spur}
 use Rattle.adjust.specs.declared.Section.{Section}
 use Rattle.adjust.specs.declared.Frame.{Frame}
-use Rattle.adjust.specs.Line.{exactTop, accidental, accidentalSum, verdict}
-use Rattle.adjust.proofs.Lists.{Fit, fit-head, fit-tail}
+use Rattle.adjust.specs.Line.{exact_top, accidental, accidental_sum, verdict}
+use Rattle.adjust.proofs.Lists.{Fit, fit_head, fit_tail}
 use Rattle.adjust.specs.declared.terms.Terms.{Terms}
-use Rattle.adjust.specs.Sizes.{mostL}
-use Rattle.adjust.specs.Terms.{termsOf}
-use Rattle.rules.specs.Rules.{closureWithin}
-use Rattle.ledger.proofs.Runs.{root-size, narrow}
+use Rattle.adjust.specs.Sizes.{most_l}
+use Rattle.adjust.specs.Terms.{terms_of}
+use Rattle.rules.specs.Rules.{closure_within}
+use Rattle.ledger.proofs.Runs.{root_size, narrow}
 
 -- ---- sections
 
@@ -33,39 +33,39 @@ pub record Narrow (x : Section) : Type 0 where
   pub number : nat_abs x.number ≤ 9999
   pub height : nat_abs x.height ≤ 4802400
 
-pub narrow-head : (x : Section) (xs : List Section) → All (narrow Nominal) (x ∷ xs) → Narrow x
-narrow-head x xs e =
+pub narrow_head : (x : Section) (xs : List Section) → All (narrow Nominal) (x ∷ xs) → Narrow x
+narrow_head x xs e =
     let n = within x.number 9999 in
     let q = within x.height 4802400 in
     let h = all_head (narrow Nominal) x xs e in
-    record { number = within-size x.number 9999 (and_l n q h); height = within-size x.height 4802400 (and_r n q h) }
+    record { number = within_size x.number 9999 (and_l n q h); height = within_size x.height 4802400 (and_r n q h) }
 
 -- ---- the line
 
 -- t and T are not below 0
-accidental-low : (squared : ℕ) → 0 < squared → (x : Section) → pos 1 ≤ℤ x.distance → pos 0 ≤ℤ accidental squared x
-accidental-low squared u x long =
+accidental_low : (squared : ℕ) → 0 < squared → (x : Section) → pos 1 ≤ℤ x.distance → pos 0 ≤ℤ accidental squared x
+accidental_low squared u x long =
     let d : ℕ = squared * nat_abs x.distance in
     let square : ℤ = x.discrepancy *ℤ x.discrepancy in
-    let far : 0 < nat_abs x.distance = omega (ints, parts-abs x.distance) in
+    let far : 0 < nat_abs x.distance = omega (ints, parts_abs x.distance) in
     let some : 0 < d = mul-le-mul u far in
     let above : (pos d *ℤ pos 0) ≤ℤ (pos 500000 *ℤ square) =
-    omega (ints, parts-times d (pos 0), parts-times 500000 square, ap negPart (square-abs x.discrepancy)) in
+    omega (ints, parts_times d (pos 0), parts_times 500000 square, ap neg_part (square_abs x.discrepancy)) in
     rw (round_exact (pos 0) d some) at (round_mono (pos d *ℤ pos 0) (pos 500000 *ℤ square) d some above)
 
-pub sum_low : (terms : Terms) (squared : ℕ) → 0 < squared → (ss : List Section) → Fit ss → pos 0 ≤ℤ accidentalSum terms squared ss
+pub sum_low : (terms : Terms) (squared : ℕ) → 0 < squared → (ss : List Section) → Fit ss → pos 0 ≤ℤ accidental_sum terms squared ss
 sum_low terms squared u ss f = go terms.double
   where
     all : (xs : List Section) → Fit xs → pos 0 ≤ℤ sum (map (accidental squared) xs)
     all [] g = omega ints
-    all (x ∷ xs) g = omega (ints, parts_add (accidental squared x) (sum (map (accidental squared) xs)), accidental-low squared u x (fit-head x xs g).long, all xs (fit-tail x xs g))
+    all (x ∷ xs) g = omega (ints, parts_add (accidental squared x) (sum (map (accidental squared) xs)), accidental_low squared u x (fit_head x xs g).long, all xs (fit_tail x xs g))
 
     go : (t : Bool) → pos 0 ≤ℤ cond t (sum (map (accidental squared) ss)) (pos 0)
     go true = all ss f
     go false = omega ints
 
-pub verdict-small : (t : Terms) (n : ℕ) (z : ℤ) → verdict t n z ≤ 2
-verdict-small t n z = go (not t.double || ltb n 20) (le_z z (t.accidental *ℤ pos n))
+pub verdict_small : (t : Terms) (n : ℕ) (z : ℤ) → verdict t n z ≤ 2
+verdict_small t n z = go (not t.double || ltb n 20) (le_z z (t.accidental *ℤ pos n))
   where
     go : (few good : Bool) → cond few 0 (cond good 1 2) ≤ 2
     go true good = omega arith
@@ -73,31 +73,31 @@ verdict-small t n z = go (not t.double || ltb n 20) (le_z z (t.accidental *ℤ p
     go false false = omega arith
 
 -- W, by the test 36, of a line of 64 sections at most
-abbrev pub mostClosure : ℕ
-mostClosure = 80000
+abbrev pub most_closure : ℕ
+most_closure = 80000
 
-pub closure-small : (o : Class) (w l : ℤ) → closureWithin (termsOf o) w l ≡ true → l ≤ℤ pos mostL → nat_abs w ≤ mostClosure
-closure-small Third w l e h = root-size 625 w 72 l mostClosure (omega arith) e (omega (ints, parts-times 72 l))
-closure-small Fourth w l e h = root-size 25 w 8 l mostClosure (omega arith) e (omega (ints, parts-times 8 l))
-closure-small Spur w l e h = root-size 25 w 8 l mostClosure (omega arith) e (omega (ints, parts-times 8 l))
+pub closure_small : (o : Class) (w l : ℤ) → closure_within (terms_of o) w l ≡ true → l ≤ℤ pos most_l → nat_abs w ≤ most_closure
+closure_small Third w l e h = root_size 625 w 72 l most_closure (omega arith) e (omega (ints, parts_times 72 l))
+closure_small Fourth w l e h = root_size 25 w 8 l most_closure (omega arith) e (omega (ints, parts_times 8 l))
+closure_small Spur w l e h = root_size 25 w 8 l most_closure (omega arith) e (omega (ints, parts_times 8 l))
 
 -- ---- a point, at running sums that are within the line's
 
 mul_small : (a b : ℤ) (m n : ℕ) → nat_abs a ≤ m → nat_abs b ≤ n → nat_abs (a *ℤ b) ≤ m * n
-mul_small a b m n h k = rw (abs-mul a b) (mul-le-mul h k)
+mul_small a b m n h k = rw (abs_mul a b) (mul-le-mul h k)
 
 -- a number by another and their difference, or their sum
 by_difference : (a b : ℤ) → nat_abs a ≤ nat_abs (a -ℤ b) + nat_abs b
-by_difference a b = omega (arith, parts-sub a b, parts-abs (a -ℤ b), parts-abs a, parts-abs b)
+by_difference a b = omega (arith, parts_sub a b, parts_abs (a -ℤ b), parts_abs a, parts_abs b)
 
-by-sum : (a b : ℤ) → nat_abs a ≤ nat_abs (a +ℤ b) + nat_abs b
-by-sum a b = omega (arith, parts_add a b, parts-abs (a +ℤ b), parts-abs a, parts-abs b)
+by_sum : (a b : ℤ) → nat_abs a ≤ nat_abs (a +ℤ b) + nat_abs b
+by_sum a b = omega (arith, parts_add a b, parts_abs (a +ℤ b), parts_abs a, parts_abs b)
 
 -- with Q and W in quarter mm, and heights printed in mm
 abbrev pub millimetres : ℤ → ℤ → ℤ → Frame
 millimetres start closing total = record { units = pos 4; prints = pos 1; start = start; closure = closing; total = total }
 
-module _ (start closing total : ℤ) (begins : nat_abs start ≤ 8999999) (closes : nat_abs closing ≤ mostClosure) (long : pos 1 ≤ℤ total) where
+module _ (start closing total : ℤ) (begins : nat_abs start ≤ 8999999) (closes : nat_abs closing ≤ most_closure) (long : pos 1 ≤ℤ total) where
   abbrev f : Frame
   f = millimetres start closing total
 
@@ -105,40 +105,40 @@ module _ (start closing total : ℤ) (begins : nat_abs start ≤ 8999999) (close
   l = nat_abs total
 
   some : 0 < l
-  some = omega (ints, parts-abs total)
+  some = omega (ints, parts_abs total)
 
   four : nat_abs (pos 4 *ℤ total) ≡ 4 * l
-  four = abs-mul (pos 4) total
+  four = abs_mul (pos 4) total
 
   -- 4 × 8,999,999 for the start, 64 × 4,802,400 for the sections and 80,000 for W
-  exact-small : (q s : ℤ) → nat_abs q ≤ 307353600 → nat_abs s ≤ l → nat_abs (exactTop f q s) ≤ 343433596 * l
-  exact-small q s hq hs =
+  exact_small : (q s : ℤ) → nat_abs q ≤ 307353600 → nat_abs s ≤ l → nat_abs (exact_top f q s) ≤ 343433596 * l
+  exact_small q s hq hs =
       let b = pos 4 *ℤ start in
       omega (
         arith,
-        abs-mul (pos 1) (b *ℤ total +ℤ q *ℤ total -ℤ closing *ℤ s),
-        abs-sub (b *ℤ total +ℤ q *ℤ total) (closing *ℤ s),
-        abs-add (b *ℤ total) (q *ℤ total),
-        mul_small b total 35999996 l (omega (arith, abs-mul (pos 4) start)) (omega arith),
+        abs_mul (pos 1) (b *ℤ total +ℤ q *ℤ total -ℤ closing *ℤ s),
+        abs_sub (b *ℤ total +ℤ q *ℤ total) (closing *ℤ s),
+        abs_add (b *ℤ total) (q *ℤ total),
+        mul_small b total 35999996 l (omega (arith, abs_mul (pos 4) start)) (omega arith),
         mul_small q total 307353600 l hq (omega arith),
-        mul_small closing s mostClosure l closes hs,
+        mul_small closing s most_closure l closes hs,
       )
 
-  pub height-small : (q s h : ℤ) → nat_abs q ≤ 307353600 → nat_abs s ≤ l → 2 * nat_abs (pos 4 *ℤ total *ℤ h -ℤ exactTop f q s) ≤ nat_abs (pos 4 *ℤ total)
+  pub height_small : (q s h : ℤ) → nat_abs q ≤ 307353600 → nat_abs s ≤ l → 2 * nat_abs (pos 4 *ℤ total *ℤ h -ℤ exact_top f q s) ≤ nat_abs (pos 4 *ℤ total)
       → nat_abs h ≤ 85858400
-  height-small q s h hq hs near = le_of_mul-le-mul_left by_length some
+  height_small q s h hq hs near = le_of_mul-le-mul_left by_length some
     where
       product : nat_abs (pos 4 *ℤ total *ℤ h) ≡ 4 * l * nat_abs h
-      product = rw (abs-mul (pos 4 *ℤ total) h, four)
+      product = rw (abs_mul (pos 4 *ℤ total) h, four)
 
       by_length : l * nat_abs h ≤ l * 85858400
-      by_length = omega (arith, near, four, product, exact-small q s hq hs, by_difference (pos 4 *ℤ total *ℤ h) (exactTop f q s))
+      by_length = omega (arith, near, four, product, exact_small q s hq hs, by_difference (pos 4 *ℤ total *ℤ h) (exact_top f q s))
 
-  pub correction-small : (c r : ℤ) → nat_abs r ≤ l → nat_abs (c *ℤ total +ℤ pos 1 *ℤ closing *ℤ r) ≤ nat_abs (pos 4 *ℤ total) → nat_abs c ≤ 80004
-  correction-small c r hr near = le_of_mul-le-mul_left by_length some
+  pub correction_small : (c r : ℤ) → nat_abs r ≤ l → nat_abs (c *ℤ total +ℤ pos 1 *ℤ closing *ℤ r) ≤ nat_abs (pos 4 *ℤ total) → nat_abs c ≤ 80004
+  correction_small c r hr near = le_of_mul-le-mul_left by_length some
     where
-      share : nat_abs (pos 1 *ℤ closing *ℤ r) ≤ mostClosure * l
-      share = mul_small (pos 1 *ℤ closing) r mostClosure l (omega (arith, abs-mul (pos 1) closing)) hr
+      share : nat_abs (pos 1 *ℤ closing *ℤ r) ≤ most_closure * l
+      share = mul_small (pos 1 *ℤ closing) r most_closure l (omega (arith, abs_mul (pos 1) closing)) hr
 
       by_length : l * nat_abs c ≤ l * 80004
-      by_length = omega (arith, near, four, abs-mul c total, share, by-sum (c *ℤ total) (pos 1 *ℤ closing *ℤ r))
+      by_length = omega (arith, near, four, abs_mul c total, share, by_sum (c *ℤ total) (pos 1 *ℤ closing *ℤ r))

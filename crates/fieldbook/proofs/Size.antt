@@ -8,84 +8,84 @@ use native.Mathlib.Omega.{arith}
 use lib.Dec.{eqb, eqb→eq}
 use lib.ListN.{length, length-append}
 use lib.IntN.{ℤ}
-use Rattle.numbers.proofs.Tests.{by-test, no_true, not-false}
+use Rattle.numbers.proofs.Tests.{by_test, no_true, not-false}
 use Rattle.adjust.specs.declared.terms.Class.{Class}
 use Rattle.adjust.specs.declared.terms.Class.TheVariants.{Third, Fourth, Spur}
-use Rattle.station.specs.Station.{stationOf}
+use Rattle.station.specs.Station.{station_of}
 use Rattle.rules.specs.declared.Stage.{Stage}
 use Rattle.rules.specs.declared.Stage.TheVariants.{Fresh, Open, Closed}
-use Rattle.rules.specs.LineState.{isOpen}
-use Rattle.rules.specs.Rules.{Call, open-line, station, end-run, drop-run, drop-section, close-line, open-spur, close-spur, collimation}
-use Rattle.ledger.specs.Plain.{Reading, Awaited, refusal, taken, runEnded, plainState}
-use Rattle.ledger.specs.Entries.{Entry, asks, refused, entryRefusal, entryNext}
+use Rattle.rules.specs.LineState.{is_open}
+use Rattle.rules.specs.Rules.{Call, open_line, station, end_run, drop_run, drop_section, close_line, open_spur, close_spur, collimation}
+use Rattle.ledger.specs.Plain.{Reading, Awaited, refusal, taken, run_ended, plain_state}
+use Rattle.ledger.specs.Entries.{Entry, asks, refused, entry_refusal, entry_next}
 use Rattle.rules.proofs.Tables.{fails}
 use Rattle.ledger.proofs.Follows.{recast}
-use Rattle.textbook.specs.Text.{Refusal, lineEntry, lineRefusals, refusalsFrom, readingAfter}
+use Rattle.textbook.specs.Text.{Refusal, line_entry, line_refusals, refusals_from, reading_after}
 
 -- ---- so many lines at least a reading has taken
 
-abbrev pub stageLines : Stage → ℕ
-stageLines Fresh = 0
-stageLines Open = 1
-stageLines Closed = 2
+abbrev pub stage_lines : Stage → ℕ
+stage_lines Fresh = 0
+stage_lines Open = 1
+stage_lines Closed = 2
 
-abbrev pub waitingLines : Option Awaited → ℕ
-waitingLines none = 0
-waitingLines (some w) = 1 + length w.outward
+abbrev pub waiting_lines : Option Awaited → ℕ
+waiting_lines none = 0
+waiting_lines (some w) = 1 + length w.outward
 
 abbrev pub least : Reading → ℕ
-least r = stageLines r.stage + 3 * length r.sections + waitingLines r.waiting + length r.present
+least r = stage_lines r.stage + 3 * length r.sections + waiting_lines r.waiting + length r.present
 
 -- a run that may end has two stations at least
-two-at-least : (n : ℕ) → eqb n 0 || eqb (n % 2) 1 ≡ false → 2 ≤ n
-two-at-least zero e = no_true (sym e)
-two-at-least (suc zero) e = no_true (sym e)
-two-at-least (suc (suc n)) e = omega arith
+two_at_least : (n : ℕ) → eqb n 0 || eqb (n % 2) 1 ≡ false → 2 ≤ n
+two_at_least zero e = no_true (sym e)
+two_at_least (suc zero) e = no_true (sym e)
+two_at_least (suc (suc n)) e = omega arith
 
 ended : (r : Reading) (class : Class) (waiting : Option Awaited) (n : ℤ) → 2 ≤ length r.present
-    → least (runEnded (recast r class waiting) n) ≤ least (recast r class waiting) + 1
+    → least (run_ended (recast r class waiting) n) ≤ least (recast r class waiting) + 1
 ended r Third none n h = omega arith
 ended r Spur none n h = omega arith
 ended r Fourth none n h = omega (arith, length-append r.sections (record { number = n; outward = r.present; back = none } ∷ []))
 ended r class (some w) n h = omega (arith, length-append r.sections (record { number = w.number; outward = w.outward; back = some r.present } ∷ []))
 
-open-lines : (s : Stage) → isOpen s ≡ true → stageLines s ≡ 1
-open-lines Fresh e = no_true e
-open-lines Open e = refl
-open-lines Closed e = no_true e
+open_lines : (s : Stage) → is_open s ≡ true → stage_lines s ≡ 1
+open_lines Fresh e = no_true e
+open_lines Open e = refl
+open_lines Closed e = no_true e
 
-taken-least : (r : Reading) (c : Call) → refusal r c ≡ 0 → least (taken r c) ≤ least r + 1
-taken-least r (open-line order instrument number height) e = omega arith
-taken-least r (station kb kf readings) e = omega (arith, length-append r.present (stationOf kb kf readings ∷ []))
-taken-least r (end-run number) e =
-    ended r r.opening.class r.waiting number (two-at-least (length r.present) (fails (plainState r) (end-run number) e 29))
-taken-least r drop-run e = omega arith
-taken-least r drop-section e = omega arith
-taken-least r (close-line number end) e =
-    let opened = not-false (isOpen r.stage) (fails (plainState r) (close-line number end) e 21) in
-    omega (arith, open-lines r.stage opened)
-taken-least r (open-spur order instrument number height) e = omega arith
-taken-least r (collimation x) e = omega arith
-taken-least r (close-spur number) e =
-    let opened = not-false (isOpen r.stage) (fails (plainState r) (close-spur number) e 21) in
-    omega (arith, open-lines r.stage opened)
+taken_least : (r : Reading) (c : Call) → refusal r c ≡ 0 → least (taken r c) ≤ least r + 1
+taken_least r (open_line order instrument number height) e = omega arith
+taken_least r (station kb kf readings) e = omega (arith, length-append r.present (station_of kb kf readings ∷ []))
+taken_least r (end_run number) e =
+    ended r r.opening.class r.waiting number (two_at_least (length r.present) (fails (plain_state r) (end_run number) e 29))
+taken_least r drop_run e = omega arith
+taken_least r drop_section e = omega arith
+taken_least r (close_line number end) e =
+    let opened = not-false (is_open r.stage) (fails (plain_state r) (close_line number end) e 21) in
+    omega (arith, open_lines r.stage opened)
+taken_least r (open_spur order instrument number height) e = omega arith
+taken_least r (collimation x) e = omega arith
+taken_least r (close_spur number) e =
+    let opened = not-false (is_open r.stage) (fails (plain_state r) (close_spur number) e 21) in
+    omega (arith, open_lines r.stage opened)
 
 -- ---- a line is refused, or adds one at most
 
 -- the refusal of line k, where there is one
-abbrev refusalOf : ℕ → ℕ → List Refusal
-refusalOf k n = cond (eqb n 0) [] (record { line = k; number = n } ∷ [])
+abbrev refusal_of : ℕ → ℕ → List Refusal
+refusal_of k n = cond (eqb n 0) [] (record { line = k; number = n } ∷ [])
 
-entry-counts : (k : ℕ) (r : Reading) (e : Entry) → length (refusalOf k (entryRefusal r e)) + least (entryNext r e) ≤ 1 + least r
-entry-counts k r (asks c) =
-    by-test (eqb (refusal r c) 0) (λ b. length {A = Refusal} (cond b [] (record { line = k; number = refusal r c } ∷ [])) + least (cond b (taken r c) r) ≤ 1 + least r)
-    (λ b. omega (arith, taken-least r c (eqb→eq (refusal r c) 0 b))) (λ b. omega arith)
-entry-counts k r (refused n) = by-test (eqb n 0) (λ b. length {A = Refusal} (cond b [] (record { line = k; number = n } ∷ [])) + least r ≤ 1 + least r) (λ b. omega arith) (λ b. omega arith)
+entry_counts : (k : ℕ) (r : Reading) (e : Entry) → length (refusal_of k (entry_refusal r e)) + least (entry_next r e) ≤ 1 + least r
+entry_counts k r (asks c) =
+    by_test (eqb (refusal r c) 0) (λ b. length {A = Refusal} (cond b [] (record { line = k; number = refusal r c } ∷ [])) + least (cond b (taken r c) r) ≤ 1 + least r)
+    (λ b. omega (arith, taken_least r c (eqb→eq (refusal r c) 0 b))) (λ b. omega arith)
+entry_counts k r (refused n) = by_test (eqb n 0) (λ b. length {A = Refusal} (cond b [] (record { line = k; number = n } ∷ [])) + least r ≤ 1 + least r) (λ b. omega arith) (λ b. omega arith)
 
-pub lines-count : (k : ℕ) (r : Reading) (ls : List (List ℕ)) → length (refusalsFrom k (lineRefusals r ls)) + least (readingAfter r ls) ≤ length ls + least r
-unfolding refusalsFrom
-lines-count k r [] = omega arith
-lines-count k r (l ∷ ls) =
-    let e : Entry = lineEntry l in
-    let s : Reading = entryNext r e in
-    omega (arith, entry-counts k r e, lines-count (suc k) s ls, length-append (refusalOf k (entryRefusal r e)) (refusalsFrom (suc k) (lineRefusals s ls)))
+pub lines_count : (k : ℕ) (r : Reading) (ls : List (List ℕ)) → length (refusals_from k (line_refusals r ls)) + least (reading_after r ls) ≤ length ls + least r
+unfolding refusals_from
+lines_count k r [] = omega arith
+lines_count k r (l ∷ ls) =
+    let e : Entry = line_entry l in
+    let s : Reading = entry_next r e in
+    omega (arith, entry_counts k r e, lines_count (suc k) s ls, length-append (refusal_of k (entry_refusal r e)) (refusals_from (suc k) (line_refusals s ls)))

@@ -8,33 +8,33 @@ use borrow.Author.Tests.{eq-eqb, leb-true}
 use lib.Dec.{leb, eqb}
 use lib.ListN.{length, take, drop, length-map}
 use lib.IntN.{pos}
-use Rattle.numbers.proofs.Tables.{first-each}
-use Rattle.numbers.proofs.Tests.{by-test, is_true}
+use Rattle.numbers.proofs.Tables.{first_each}
+use Rattle.numbers.proofs.Tests.{by_test, is_true}
 use Rattle.numbers.proofs.All.{All, all_head, all_tail, all_cons, all_append}
-use Rattle.ledger.proofs.Kept.{calls-kept}
+use Rattle.ledger.proofs.Kept.{calls_kept}
 use Rattle.adjust.specs.declared.Point.{Point}
 use Rattle.records.specs.declared.Tag.{Tag}
 use Rattle.records.specs.declared.Kind.{Kind}
 use Rattle.records.specs.declared.Kind.TheVariants.{Record, Refused}
 use Rattle.columns.specs.declared.parser.TextLine.{TextLine}
 use Rattle.columns.specs.Decimals.{same}
-use Rattle.columns.specs.Lines.{lineEnd, heading, title}
-use Rattle.columns.specs.Records.{letters, tags, tagAmong, fieldCount, allNumbers, numbersIn, refusedLine, recordLine, numbersLine, recordIn, lineOfKind, lineIn}
+use Rattle.columns.specs.Lines.{line_end, heading, title}
+use Rattle.columns.specs.Records.{letters, tags, tag_among, field_count, all_numbers, numbers_in, refused_line, record_line, numbers_line, record_in, line_of_kind, line_in}
 use Rattle.columns.specs.Texts.{lines}
-use Rattle.columns.proofs.Lines.{length-line, length-title}
-use Rattle.rules.specs.LineState.{isClosed}
+use Rattle.columns.proofs.Lines.{length_line, length_title}
+use Rattle.rules.specs.LineState.{is_closed}
 use Rattle.rules.specs.Rules.{Call}
 use Rattle.rules.proofs.Tables.{tests, tables}
 use Rattle.rules.specs.Records.{call_of}
-use Rattle.ledger.specs.Entries.{entry_of, entryRefusal, entryNext}
-use Rattle.ledger.specs.Plain.{Reading, freshReading, after, refusal, plainState, sectionOf, figuresOf}
-use Rattle.textbook.specs.Text.{Refusal, lineEntry, entries, lineRefusals, readingAfter, calls_of, refusalsFrom}
-use Rattle.fieldbook.specs.Report.{refLine, closedNumbers, closedLine, pointLine, openLine, closingLines, resultLines, reportOf, withoutHeading, reportLines}
-use Rattle.fieldbook.specs.Fits.{pointFits, ReportWhole}
-use Rattle.ledger.proofs.Entries.{reading-calls}
-use Rattle.fieldbook.proofs.Widths.{figures-fit}
-use Rattle.fieldbook.proofs.Written.{refusal-fits, open-long, point-long}
-use Rattle.fieldbook.proofs.Reports.{closed-stage, few-lines}
+use Rattle.ledger.specs.Entries.{entry_of, entry_refusal, entry_next}
+use Rattle.ledger.specs.Plain.{Reading, fresh_reading, after, refusal, plain_state, section_of, figures_of}
+use Rattle.textbook.specs.Text.{Refusal, line_entry, entries, line_refusals, reading_after, calls_of, refusals_from}
+use Rattle.fieldbook.specs.Report.{ref_line, closed_numbers, closed_line, point_line, opn_line, closing_lines, result_lines, report_of, without_heading, report_lines}
+use Rattle.fieldbook.specs.Fits.{point_fits, ReportWhole}
+use Rattle.ledger.proofs.Entries.{reading_calls}
+use Rattle.fieldbook.proofs.Widths.{figures_fit_lem}
+use Rattle.fieldbook.proofs.Written.{refusal_fits, open_long, point_long}
+use Rattle.fieldbook.proofs.Reports.{closed_stage, few_lines}
 
 -- ---- refusal numbers have two digits at most
 
@@ -46,30 +46,30 @@ SmallKind (Refused n) = n ≤ 99
 abbrev Small : TextLine → Type 0
 Small l = SmallKind l.kind
 
-no-tag : (ts : List Tag) (w : List ℕ) → SmallKind (tagAmong ts w)
-unfolding tagAmong
-no-tag [] w = omega arith
-no-tag (t ∷ ts) w = by-test (same w (letters t)) (λ b. SmallKind (cond b (Record t) (tagAmong ts w))) (λ b. tt) (λ b. no-tag ts w)
+no_tag : (ts : List Tag) (w : List ℕ) → SmallKind (tag_among ts w)
+unfolding tag_among
+no_tag [] w = omega arith
+no_tag (t ∷ ts) w = by_test (same w (letters t)) (λ b. SmallKind (cond b (Record t) (tag_among ts w))) (λ b. tt) (λ b. no_tag ts w)
 
-numbers-small : (t : Tag) (n : ℕ) (l : List ℕ) → Small (numbersLine t n l)
-unfolding numbersLine
-numbers-small t n l = by-test (allNumbers n l) (λ b. Small (cond b (recordLine t (numbersIn n l)) (refusedLine 2))) (λ b. tt) (λ b. omega arith)
+numbers_small : (t : Tag) (n : ℕ) (l : List ℕ) → Small (numbers_line t n l)
+unfolding numbers_line
+numbers_small t n l = by_test (all_numbers n l) (λ b. Small (cond b (record_line t (numbers_in n l)) (refused_line 2))) (λ b. tt) (λ b. omega arith)
 
-line_small : (l : List ℕ) → Small (lineIn l)
-unfolding lineIn recordIn
-line_small l = go (tagAmong tags (take 3 l)) (no-tag tags (take 3 l))
+line_small : (l : List ℕ) → Small (line_in l)
+unfolding line_in record_in
+line_small l = go (tag_among tags (take 3 l)) (no_tag tags (take 3 l))
   where
-    go : (k : Kind) → SmallKind k → Small (lineOfKind k l)
+    go : (k : Kind) → SmallKind k → Small (line_of_kind k l)
     go (Record t) h =
-        by-test (same (drop (3 + 8 * fieldCount t) l) (lineEnd (3 + 8 * fieldCount t))) (λ b. Small (cond b (numbersLine t (fieldCount t) (drop 3 l)) (refusedLine 1)))
-        (λ b. numbers-small t (fieldCount t) (drop 3 l)) (λ b. omega arith)
+        by_test (same (drop (3 + 8 * field_count t) l) (line_end (3 + 8 * field_count t))) (λ b. Small (cond b (numbers_line t (field_count t) (drop 3 l)) (refused_line 1)))
+        (λ b. numbers_small t (field_count t) (drop 3 l)) (λ b. omega arith)
     go (Refused n) h = h
 
-refusal-small : (r : Reading) (l : List ℕ) → entryRefusal r (lineEntry l) ≤ 99
-refusal-small r l = go (lineIn l).kind (line_small l)
+refusal_small : (r : Reading) (l : List ℕ) → entry_refusal r (line_entry l) ≤ 99
+refusal_small r l = go (line_in l).kind (line_small l)
   where
-    go : (k : Kind) → SmallKind k → entryRefusal r (entry_of k (lineIn l).values) ≤ 99
-    go (Record t) h = let c : Call = call_of t (lineIn l).values in leb-true (refusal r c) 99 (first-each (λ n. leb n 99) (tests (plainState r) c) (tables (plainState r) c).two_digits refl)
+    go : (k : Kind) → SmallKind k → entry_refusal r (entry_of k (line_in l).values) ≤ 99
+    go (Record t) h = let c : Call = call_of t (line_in l).values in leb-true (refusal r c) 99 (first_each (λ n. leb n 99) (tests (plain_state r) c) (tables (plain_state r) c).two_digits refl)
     go (Refused n) h = h
 
 -- ---- whole lines
@@ -83,62 +83,62 @@ AllWhole ls = All whole ls
 is_whole : (l : List ℕ) → length l ≡ 84 → whole l ≡ true
 is_whole l e = eq-eqb (length l) 84 e
 
-refusal-whole : (k n : ℕ) → k ≤ 777 → n ≤ 99 → AllWhole (map refLine (cond (eqb n 0) [] (record { line = k; number = n } ∷ [])))
-refusal-whole k n h g =
-    by-test (eqb n 0) (λ b. AllWhole (map refLine (cond b [] (record { line = k; number = n } ∷ [])))) (λ b. refl)
-    (λ b. all_cons whole (refLine (record { line = k; number = n })) [] (is_whole (refLine (record { line = k; number = n }))
-    (length-line (82 ∷ 69 ∷ 70 ∷ []) (pos k ∷ pos n ∷ []) false (refusal-fits k n h (omega arith)))) refl)
+refusal_whole : (k n : ℕ) → k ≤ 777 → n ≤ 99 → AllWhole (map ref_line (cond (eqb n 0) [] (record { line = k; number = n } ∷ [])))
+refusal_whole k n h g =
+    by_test (eqb n 0) (λ b. AllWhole (map ref_line (cond b [] (record { line = k; number = n } ∷ [])))) (λ b. refl)
+    (λ b. all_cons whole (ref_line (record { line = k; number = n })) [] (is_whole (ref_line (record { line = k; number = n }))
+    (length_line (82 ∷ 69 ∷ 70 ∷ []) (pos k ∷ pos n ∷ []) false (refusal_fits k n h (omega arith)))) refl)
 
-refusals-whole : (k : ℕ) (r : Reading) (ls : List (List ℕ)) → k + length ls ≤ 778 → AllWhole (map refLine (refusalsFrom k (lineRefusals r ls)))
-unfolding refusalsFrom
-refusals-whole k r [] h = refl
-refusals-whole k r (l ∷ ls) h =
-    let n = entryRefusal r (lineEntry l) in
-    let s = entryNext r (lineEntry l) in
+refusals_whole : (k : ℕ) (r : Reading) (ls : List (List ℕ)) → k + length ls ≤ 778 → AllWhole (map ref_line (refusals_from k (line_refusals r ls)))
+unfolding refusals_from
+refusals_whole k r [] h = refl
+refusals_whole k r (l ∷ ls) h =
+    let n = entry_refusal r (line_entry l) in
+    let s = entry_next r (line_entry l) in
     let here : List Refusal = cond (eqb n 0) [] (record { line = k; number = n } ∷ []) in
-    let later = refusalsFrom (suc k) (lineRefusals s ls) in
-    subst AllWhole (sym (map-append refLine here later))
-    (all_append whole (map refLine here) (map refLine later) (refusal-whole k n (omega arith) (refusal-small r l)) (refusals-whole (suc k) s ls (omega arith)))
+    let later = refusals_from (suc k) (line_refusals s ls) in
+    subst AllWhole (sym (map-append ref_line here later))
+    (all_append whole (map ref_line here) (map ref_line later) (refusal_whole k n (omega arith) (refusal_small r l)) (refusals_whole (suc k) s ls (omega arith)))
 
-points-whole : (ps : List Point) → All pointFits ps → AllWhole (map pointLine ps)
-points-whole [] f = refl
-points-whole (p ∷ ps) f =
-    all_cons whole (pointLine p) (map pointLine ps) (is_whole (pointLine p) (point-long p (all_head pointFits p ps f))) (points-whole ps (all_tail pointFits p ps f))
+points_whole : (ps : List Point) → All point_fits ps → AllWhole (map point_line ps)
+points_whole [] f = refl
+points_whole (p ∷ ps) f =
+    all_cons whole (point_line p) (map point_line ps) (is_whole (point_line p) (point_long p (all_head point_fits p ps f))) (points_whole ps (all_tail point_fits p ps f))
 
 -- ---- the report
 
-result-whole : (calls : List Call) → AllWhole (resultLines (after freshReading calls))
-result-whole calls =
-    by-test (isClosed r.stage) (λ b. AllWhole (cond b (closingLines (figuresOf r)) (openLine (length r.sections) ∷ [])))
+result_whole : (calls : List Call) → AllWhole (result_lines (after fresh_reading calls))
+result_whole calls =
+    by_test (is_closed r.stage) (λ b. AllWhole (cond b (closing_lines (figures_of r)) (opn_line (length r.sections) ∷ [])))
     (λ b.
-    let f = figures-fit calls (closed-stage r.stage (is_true b)) in
-    let x = figuresOf r in
-    all_cons whole (closedLine x.summary) (map pointLine x.points)
-    (is_whole (closedLine x.summary) (length-line (67 ∷ 76 ∷ 79 ∷ []) (closedNumbers x.summary) false f.0)) (points-whole x.points f.1))
-    (λ b. all_cons whole (openLine n) [] (is_whole (openLine n) (open-long n (omega (arith, (calls-kept calls).few, length-map r.sections (sectionOf r.opening.staffs))))) refl)
+    let f = figures_fit_lem calls (closed_stage r.stage (is_true b)) in
+    let x = figures_of r in
+    all_cons whole (closed_line x.summary) (map point_line x.points)
+    (is_whole (closed_line x.summary) (length_line (67 ∷ 76 ∷ 79 ∷ []) (closed_numbers x.summary) false f.0)) (points_whole x.points f.1))
+    (λ b. all_cons whole (opn_line n) [] (is_whole (opn_line n) (open_long n (omega (arith, (calls_kept calls).few, length-map r.sections (section_of r.opening.staffs))))) refl)
   where
     r : Reading
-    r = after freshReading calls
+    r = after fresh_reading calls
 
     n : ℕ
     n = length r.sections
 
-report-of : (refusals : List Refusal) (r : Reading) → AllWhole (map refLine refusals) → AllWhole (resultLines r) → AllWhole (reportOf refusals r)
-report-of refusals r f g =
-    all_cons whole title (map refLine refusals ++ resultLines r) (is_whole title length-title) (all_append whole (map refLine refusals) (resultLines r) f g)
+report_of_lem : (refusals : List Refusal) (r : Reading) → AllWhole (map ref_line refusals) → AllWhole (result_lines r) → AllWhole (report_of refusals r)
+report_of_lem refusals r f g =
+    all_cons whole title (map ref_line refusals ++ result_lines r) (is_whole title length_title) (all_append whole (map ref_line refusals) (result_lines r) f g)
 
-without : AllWhole withoutHeading
-without = report-of (record { line = 1; number = 1 } ∷ []) freshReading (refusal-whole 1 1 (omega arith) (omega arith)) (result-whole [])
+without : AllWhole without_heading
+without = report_of_lem (record { line = 1; number = 1 } ∷ []) fresh_reading (refusal_whole 1 1 (omega arith) (omega arith)) (result_whole [])
 
-lines-whole : (ls : List (List ℕ)) → length ls ≤ 777 → AllWhole (reportLines ls)
-lines-whole [] h = without
-lines-whole (l ∷ ls) h =
-    let refusals = refusalsFrom 2 (lineRefusals freshReading ls) in
-    let r : Reading = readingAfter freshReading ls in
-    by-test (same l heading) (λ b. AllWhole (cond b (reportOf refusals r) withoutHeading))
-    (λ b. report-of refusals r (refusals-whole 2 freshReading ls (omega arith))
-    (subst (λ (x : Reading). AllWhole (resultLines x)) (sym (reading-calls freshReading (entries ls))) (result-whole (calls_of ls))))
+lines_whole : (ls : List (List ℕ)) → length ls ≤ 777 → AllWhole (report_lines ls)
+lines_whole [] h = without
+lines_whole (l ∷ ls) h =
+    let refusals = refusals_from 2 (line_refusals fresh_reading ls) in
+    let r : Reading = reading_after fresh_reading ls in
+    by_test (same l heading) (λ b. AllWhole (cond b (report_of refusals r) without_heading))
+    (λ b. report_of_lem refusals r (refusals_whole 2 fresh_reading ls (omega arith))
+    (subst (λ (x : Reading). AllWhole (result_lines x)) (sym (reading_calls fresh_reading (entries ls))) (result_whole (calls_of ls))))
     (λ b. without)
 
-pub report-whole : ReportWhole
-report-whole text h = lines-whole (lines text) (few-lines text h)
+pub report_whole : ReportWhole
+report_whole text h = lines_whole (lines text) (few_lines text h)

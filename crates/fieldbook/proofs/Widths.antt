@@ -8,42 +8,42 @@ use native.Mathlib.Omega.{arith}
 use lib.ListN.{length}
 use lib.IntN.{ℤ, pos, nat_abs, ◌+ℤ◌, ◌*ℤ◌}
 use lib.Signed.{◌≤ℤ◌, lt_z}
-use Rattle.numbers.proofs.Tests.{by-test, is_false, not-false}
+use Rattle.numbers.proofs.Tests.{by_test, is_false, not-false}
 use Rattle.numbers.proofs.All.{All, all_cons, all_tail}
-use Rattle.numbers.proofs.Parts.{ints, parts_add, parts-abs, test-ge}
-use Rattle.numbers.proofs.Sizes.{abs-add, abs-mul}
+use Rattle.numbers.proofs.Parts.{ints, parts_add, parts_abs, test_ge}
+use Rattle.numbers.proofs.Sizes.{abs_add, abs_mul}
 use Rattle.station.specs.declared.Staffs.{Staffs}
 use Rattle.station.specs.declared.Staffs.TheVariants.{Nominal}
 use Rattle.adjust.specs.declared.terms.Class.{Class}
 use Rattle.adjust.specs.declared.Point.{Point}
 use Rattle.adjust.specs.declared.Summary.{Summary}
 use Rattle.adjust.specs.declared.Section.{Section}
-use Rattle.adjust.specs.Claims.{Near, next-section}
+use Rattle.adjust.specs.Claims.{Near, next_section}
 use Rattle.adjust.specs.declared.terms.Terms.{Terms}
-use Rattle.adjust.specs.Sizes.{mostL}
+use Rattle.adjust.specs.Sizes.{most_l}
 use Rattle.adjust.specs.declared.Frame.{Frame}
-use Rattle.adjust.specs.Line.{quarters, wholes, lineFrame, Closing, closing, closure, lineLength, pointAfter, pointsAfter, sectionPoints, printedHeight, accidentalSum}
-use Rattle.adjust.proofs.Lines.{line-near}
-use Rattle.adjust.proofs.Lists.{Fit, fit-head, fit-tail, fitted-legs}
-use Rattle.adjust.proofs.Sized.{long, length-size, in-range}
-use Rattle.columns.specs.Decimals.{fitsIn}
-use Rattle.columns.specs.Lines.{width_of, all_fit, columnsOf, lineFits, is_wide}
-use Rattle.columns.proofs.Fields.{fits-within}
-use Rattle.columns.proofs.Lines.{columns-range, fits-room, height-fits}
+use Rattle.adjust.specs.Line.{quarters, wholes, line_frame, Closing, closing, closure, line_length, point_after, points_after, section_points, printed_height, accidental_sum}
+use Rattle.adjust.proofs.Lines.{line_near}
+use Rattle.adjust.proofs.Lists.{Fit, fit_head, fit_tail, fitted_legs}
+use Rattle.adjust.proofs.Sized.{long, length_size, in_range_lem}
+use Rattle.columns.specs.Decimals.{fits_in}
+use Rattle.columns.specs.Lines.{width_of, all_fit, columns_of, line_fits, is_wide}
+use Rattle.columns.proofs.Fields.{fits_within}
+use Rattle.columns.proofs.Lines.{columns_range, fits_room, height_fits}
 use Rattle.rules.specs.declared.Stage.TheVariants.{Closed}
 use Rattle.rules.specs.LineState.{LineState}
-use Rattle.adjust.specs.Terms.{termsOf}
-use Rattle.rules.specs.Rules.{Call, open-line, open-spur, collimation, station, end-run, drop-run, drop-section, close-line, close-spur, closureWithin}
+use Rattle.adjust.specs.Terms.{terms_of}
+use Rattle.rules.specs.Rules.{Call, open_line, open_spur, collimation, station, end_run, drop_run, drop_section, close_line, close_spur, closure_within}
 use Rattle.ledger.specs.Plain as Plain
-use Rattle.ledger.specs.Claims.{ClosedBy, by_end, by-fin}
-use Rattle.ledger.specs.Plain.{Reading, freshReading, after, figuresOf, plainState}
+use Rattle.ledger.specs.Claims.{ClosedBy, by_end, by_fin}
+use Rattle.ledger.specs.Plain.{Reading, fresh_reading, after, figures_of, plain_state}
 use Rattle.rules.proofs.Tables.{fails}
 use Rattle.ledger.proofs.Runs.{narrow}
-use Rattle.ledger.proofs.Kept.{Kept, calls-kept}
-use Rattle.ledger.proofs.Every.{every-list}
-use Rattle.fieldbook.specs.Report.{shownT, pointNumbers}
-use Rattle.fieldbook.specs.Fits.{closedFits, pointFits, FiguresFit}
-use Rattle.fieldbook.proofs.Figures.{narrow-head, sum_low, verdict-small, mostClosure, closure-small, millimetres, height-small, correction-small}
+use Rattle.ledger.proofs.Kept.{Kept, calls_kept}
+use Rattle.ledger.proofs.Every.{every_list}
+use Rattle.fieldbook.specs.Report.{shown_t, point_numbers}
+use Rattle.fieldbook.specs.Fits.{closed_fits, point_fits, FiguresFit}
+use Rattle.fieldbook.proofs.Figures.{narrow_head, sum_low, verdict_small, most_closure, closure_small, millimetres, height_small, correction_small}
 
 -- ---- fields
 
@@ -51,77 +51,77 @@ use Rattle.fieldbook.proofs.Figures.{narrow-head, sum_low, verdict-small, mostCl
 abbrev Small : ℤ → Type 0
 Small z = nat_abs z ≤ 9999999
 
-pub small-fits : (z : ℤ) → Small z → fitsIn 8 z ≡ true
-small-fits z h = fits-within 7 z (omega arith) (omega (arith, parts-abs z)) (omega (arith, parts-abs z))
+pub small_fits : (z : ℤ) → Small z → fits_in 8 z ≡ true
+small_fits z h = fits_within 7 z (omega arith) (omega (arith, parts_abs z)) (omega (arith, parts_abs z))
 
 -- one of eight digits without
 abbrev Long : ℤ → Type 0
 Long z = (pos 0 ≤ℤ z) × (z ≤ℤ pos 99999999)
 
-long-fits : (z : ℤ) → Long z → fitsIn 8 z ≡ true
-long-fits z h = fits-within 7 z (omega arith) (omega (ints, h.0, h.1, parts-abs z)) (omega (ints, h.0, h.1, parts-abs z))
+long_fits : (z : ℤ) → Long z → fits_in 8 z ≡ true
+long_fits z h = fits_within 7 z (omega arith) (omega (ints, h.0, h.1, parts_abs z)) (omega (ints, h.0, h.1, parts_abs z))
 
 -- as T is printed
-shown-long : (t : ℤ) → pos 0 ≤ℤ t → Long (shownT t)
-shown-long t h =
-    by-test (lt_z (pos 99999999) t) (λ b. Long (cond b (pos 99999999) t))
-    (λ b. (omega ints, omega ints)) (λ b. (h, test-ge {a = pos 99999999} {b = t} (is_false b)))
+shown_long : (t : ℤ) → pos 0 ≤ℤ t → Long (shown_t t)
+shown_long t h =
+    by_test (lt_z (pos 99999999) t) (λ b. Long (cond b (pos 99999999) t))
+    (λ b. (omega ints, omega ints)) (λ b. (h, test_ge {a = pos 99999999} {b = t} (is_false b)))
 
-closed-fits : (s : Summary) → Small s.closure → Long s.distance → s.count ≤ 64 → pos 0 ≤ℤ s.accidental → s.verdict ≤ 2 → closedFits s ≡ true
-unfolding lineFits columnsOf all_fit width_of
-closed-fits s w l n t v =
+closed_fits_lem : (s : Summary) → Small s.closure → Long s.distance → s.count ≤ 64 → pos 0 ≤ℤ s.accidental → s.verdict ≤ 2 → closed_fits s ≡ true
+unfolding line_fits columns_of all_fit width_of
+closed_fits_lem s w l n t v =
     rw (
-      small-fits s.closure w,
-      long-fits s.distance l,
-      small-fits (pos s.count) (omega arith),
-      long-fits (shownT s.accidental) (shown-long s.accidental t),
-      small-fits (pos s.verdict) (omega arith),
+      small_fits s.closure w,
+      long_fits s.distance l,
+      small_fits (pos s.count) (omega arith),
+      long_fits (shown_t s.accidental) (shown_long s.accidental t),
+      small_fits (pos s.verdict) (omega arith),
     )
 
-point-fits : (p : Point) → Small p.number → Long p.distance → Small p.correction → nat_abs p.height ≤ 99999999 → pointFits p ≡ true
+point_fits_lem : (p : Point) → Small p.number → Long p.distance → Small p.correction → nat_abs p.height ≤ 99999999 → point_fits p ≡ true
 unfolding all_fit width_of
-point-fits p n d c h =
-    fits-room 3 (pointNumbers p) (is_wide p.height) (omega (arith, columns-range (is_wide p.height) 4))
+point_fits_lem p n d c h =
+    fits_room 3 (point_numbers p) (is_wide p.height) (omega (arith, columns_range (is_wide p.height) 4))
     ∙ rw (
-      small-fits p.number n,
-      long-fits p.distance d,
-      small-fits p.correction c,
-      height-fits p.height (omega (arith, parts-abs p.height)) (omega (arith, parts-abs p.height)),
+      small_fits p.number n,
+      long_fits p.distance d,
+      small_fits p.correction c,
+      height_fits p.height (omega (arith, parts_abs p.height)) (omega (arith, parts_abs p.height)),
     )
 
 -- ---- the points of a line
 
-module _ (start closed total : ℤ) (begins : nat_abs start ≤ 8999999) (closes : nat_abs closed ≤ mostClosure) (some : pos 1 ≤ℤ total) (short : total ≤ℤ pos mostL) where
+module _ (start closed total : ℤ) (begins : nat_abs start ≤ 8999999) (closes : nat_abs closed ≤ most_closure) (some : pos 1 ≤ℤ total) (short : total ≤ℤ pos most_l) where
   abbrev f : Frame
   f = millimetres start closed total
 
   -- after running sums q and s, with the sums of the sections that follow still within those of a line
-  points-fit : (q s h : ℤ) (xs : List Section) → Fit xs → All (narrow Nominal) xs
-      → nat_abs q + 4802400 * length xs ≤ 307353600 → pos 0 ≤ℤ s → (s +ℤ lineLength xs) ≤ℤ total
-      → Near f q s xs (pointsAfter f q s h xs) → All pointFits (pointsAfter f q s h xs)
-  points-fit q s h [] fit n hq hs ht near = refl
-  points-fit q s h (x ∷ xs) fit n hq hs ht (next-section height correction near) =
-      let leg = fit-head x xs fit in
-      let here = narrow-head x xs n in
+  points_fit_lem : (q s h : ℤ) (xs : List Section) → Fit xs → All (narrow Nominal) xs
+      → nat_abs q + 4802400 * length xs ≤ 307353600 → pos 0 ≤ℤ s → (s +ℤ line_length xs) ≤ℤ total
+      → Near f q s xs (points_after f q s h xs) → All point_fits (points_after f q s h xs)
+  points_fit_lem q s h [] fit n hq hs ht near = refl
+  points_fit_lem q s h (x ∷ xs) fit n hq hs ht (next_section height correction near) =
+      let leg = fit_head x xs fit in
+      let here = narrow_head x xs n in
       let q₂ : ℤ = q +ℤ x.height in
       let s₂ : ℤ = s +ℤ x.distance in
-      let g : ℤ = printedHeight f q₂ s₂ in
-      let rest : pos (length xs) ≤ℤ lineLength xs = long xs (fit-tail x xs fit) in
+      let g : ℤ = printed_height f q₂ s₂ in
+      let rest : pos (length xs) ≤ℤ line_length xs = long xs (fit_tail x xs fit) in
       let forward : pos 0 ≤ℤ s₂ = omega (ints, leg.long, parts_add s x.distance) in
-      let on : (s₂ +ℤ lineLength xs) ≤ℤ total =
-      omega (ints, ht, parts_add s x.distance, parts_add s₂ (lineLength xs), parts_add s (lineLength (x ∷ xs)), parts_add x.distance (lineLength xs)) in
-      let in-line : nat_abs s₂ ≤ nat_abs total = omega (ints, forward, on, rest, parts_add s₂ (lineLength xs), parts-abs s₂, parts-abs total) in
-      let part : nat_abs x.distance ≤ nat_abs s₂ = omega (ints, hs, leg.long, parts_add s x.distance, parts-abs s₂, parts-abs x.distance) in
-      let sum : nat_abs q₂ + 4802400 * length xs ≤ 307353600 = omega (arith, hq, here.height, abs-add q x.height) in
-      all_cons pointFits (pointAfter f q s h x) (pointsAfter f q₂ s₂ g xs)
-      (point-fits (pointAfter f q s h x) (omega (arith, here.number)) (forward, omega (ints, in-line, short, some, parts-abs total, parts-abs s₂))
-      (omega (arith, correction-small start closed total begins closes some (pointAfter f q s h x).correction x.distance (le_trans part in-line) correction))
-      (omega (arith, height-small start closed total begins closes some q₂ s₂ g (omega (arith, sum)) in-line height)))
-      (points-fit q₂ s₂ g xs (fit-tail x xs fit) (all_tail (narrow Nominal) x xs n) sum forward on near)
+      let on : (s₂ +ℤ line_length xs) ≤ℤ total =
+      omega (ints, ht, parts_add s x.distance, parts_add s₂ (line_length xs), parts_add s (line_length (x ∷ xs)), parts_add x.distance (line_length xs)) in
+      let in_line : nat_abs s₂ ≤ nat_abs total = omega (ints, forward, on, rest, parts_add s₂ (line_length xs), parts_abs s₂, parts_abs total) in
+      let part : nat_abs x.distance ≤ nat_abs s₂ = omega (ints, hs, leg.long, parts_add s x.distance, parts_abs s₂, parts_abs x.distance) in
+      let sum : nat_abs q₂ + 4802400 * length xs ≤ 307353600 = omega (arith, hq, here.height, abs_add q x.height) in
+      all_cons point_fits (point_after f q s h x) (points_after f q₂ s₂ g xs)
+      (point_fits_lem (point_after f q s h x) (omega (arith, here.number)) (forward, omega (ints, in_line, short, some, parts_abs total, parts_abs s₂))
+      (omega (arith, correction_small start closed total begins closes some (point_after f q s h x).correction x.distance (le_trans part in_line) correction))
+      (omega (arith, height_small start closed total begins closes some q₂ s₂ g (omega (arith, sum)) in_line height)))
+      (points_fit_lem q₂ s₂ g xs (fit_tail x xs fit) (all_tail (narrow Nominal) x xs n) sum forward on near)
 
 -- ---- a line that is closed, whose W is small
 
-module _ (v : LineState) (i : Kept v) (shut : v.line.stage ≡ Closed) (small : nat_abs (lineFrame v.line.opening v.line.end v.sections).closure ≤ mostClosure) where
+module _ (v : LineState) (i : Kept v) (shut : v.line.stage ≡ Closed) (small : nat_abs (line_frame v.line.opening v.line.end v.sections).closure ≤ most_closure) where
   abbrev start : ℤ
   start = v.line.opening.start.height
 
@@ -129,65 +129,65 @@ module _ (v : LineState) (i : Kept v) (shut : v.line.stage ≡ Closed) (small : 
   ss = v.sections
 
   abbrev framed : Frame
-  framed = lineFrame v.line.opening v.line.end ss
+  framed = line_frame v.line.opening v.line.end ss
 
   abbrev gave : Closing
   gave = closing v.line.opening v.line.end ss
 
   fit : Fit ss
-  fit = fitted-legs ss i.fit
+  fit = fitted_legs ss i.fit
 
-  some : pos 1 ≤ℤ lineLength ss
+  some : pos 1 ≤ℤ line_length ss
   some = omega (ints, long ss fit, i.closed shut)
 
-  short : lineLength ss ≤ℤ pos mostL
-  short = omega (ints, length-size ss fit, i.few, parts-abs (lineLength ss))
+  short : line_length ss ≤ℤ pos most_l
+  short = omega (ints, length_size ss fit, i.few, parts_abs (line_length ss))
 
   begins : nat_abs start ≤ 8999999
-  begins = in-range start i.start
+  begins = in_range_lem start i.start
 
-  summary-fits : closedFits gave.summary ≡ true
-  summary-fits =
-      let terms : Terms = termsOf v.line.opening.class in
-      closed-fits gave.summary (omega (arith, small, abs-mul (pos 1) framed.closure)) (omega (ints, some), omega (ints, short)) i.few
-      (sum_low terms 1 (omega arith) ss fit) (verdict-small terms (length ss) (accidentalSum terms 1 ss))
+  summary_fits : closed_fits gave.summary ≡ true
+  summary_fits =
+      let terms : Terms = terms_of v.line.opening.class in
+      closed_fits_lem gave.summary (omega (arith, small, abs_mul (pos 1) framed.closure)) (omega (ints, some), omega (ints, short)) i.few
+      (sum_low terms 1 (omega arith) ss fit) (verdict_small terms (length ss) (accidental_sum terms 1 ss))
 
-  all-fit : All pointFits gave.points
-  all-fit =
-      all_cons pointFits _ (sectionPoints framed ss)
-      (point-fits _ (omega (arith, i.number)) (omega ints, omega ints) (omega arith) (omega (arith, begins, abs-mul (pos 1) start)))
-      (points-fit start framed.closure (lineLength ss) begins small some short (pos 0) (pos 0) (pos 1 *ℤ start) ss fit (subst (λ (c : Staffs). All (narrow c) ss) i.nominal i.narrow-sections) (omega (arith, i.few)) (omega ints)
-      (omega (ints, parts_add (pos 0) (lineLength ss))) (line-near 4 (omega arith) wholes ss some start framed.closure))
+  all_fit_lem : All point_fits gave.points
+  all_fit_lem =
+      all_cons point_fits _ (section_points framed ss)
+      (point_fits_lem _ (omega (arith, i.number)) (omega ints, omega ints) (omega arith) (omega (arith, begins, abs_mul (pos 1) start)))
+      (points_fit_lem start framed.closure (line_length ss) begins small some short (pos 0) (pos 0) (pos 1 *ℤ start) ss fit (subst (λ (c : Staffs). All (narrow c) ss) i.nominal i.narrow_sections) (omega (arith, i.few)) (omega ints)
+      (omega (ints, parts_add (pos 0) (line_length ss))) (line_near 4 (omega arith) wholes ss some start framed.closure))
 
 -- W is small where END was taken, by the test 36, and 0 where FIN was
-closed-small : (r : Reading) (c : Call) → ClosedBy r c → Plain.refusal r c ≡ 0 → Kept (plainState (Plain.taken r c))
-    → let v : LineState = plainState (Plain.taken r c) in nat_abs (lineFrame v.line.opening v.line.end v.sections).closure ≤ mostClosure
-closed-small r (close-line n end) (by_end m h tied) e k =
-    let v : LineState = plainState r in
+closed_small : (r : Reading) (c : Call) → ClosedBy r c → Plain.refusal r c ≡ 0 → Kept (plain_state (Plain.taken r c))
+    → let v : LineState = plain_state (Plain.taken r c) in nat_abs (line_frame v.line.opening v.line.end v.sections).closure ≤ most_closure
+closed_small r (close_line n end) (by_end m h tied) e k =
+    let v : LineState = plain_state r in
     let class : Class = r.opening.class in
-    let l : ℤ = lineLength v.sections in
+    let l : ℤ = line_length v.sections in
     let w : ℤ = closure quarters r.opening.start.height end v.sections in
-    let short : l ≤ℤ pos mostL = omega (ints, length-size v.sections (fitted-legs v.sections k.fit), k.few, parts-abs l) in
-    let small : nat_abs w ≤ mostClosure = closure-small class w l (not-false (closureWithin (termsOf class) w l) (fails v (close-line n end) e 36)) short in
-    subst (λ (t : Bool). nat_abs (cond t w (pos 0)) ≤ mostClosure) (sym tied) small
-closed-small r (close-spur n) (by-fin m loose) e k =
-    let v : LineState = plainState r in
-    subst (λ (t : Bool). nat_abs (cond t (closure quarters r.opening.start.height (pos 0) v.sections) (pos 0)) ≤ mostClosure) (sym loose) (omega arith)
-closed-small r (open-line _ _ _ _) never e k = elim never [ ]
-closed-small r (station _ _ _) never e k = elim never [ ]
-closed-small r (end-run _) never e k = elim never [ ]
-closed-small r drop-run never e k = elim never [ ]
-closed-small r drop-section never e k = elim never [ ]
-closed-small r (open-spur _ _ _ _) never e k = elim never [ ]
-closed-small r (collimation _) never e k = elim never [ ]
+    let short : l ≤ℤ pos most_l = omega (ints, length_size v.sections (fitted_legs v.sections k.fit), k.few, parts_abs l) in
+    let small : nat_abs w ≤ most_closure = closure_small class w l (not-false (closure_within (terms_of class) w l) (fails v (close_line n end) e 36)) short in
+    subst (λ (t : Bool). nat_abs (cond t w (pos 0)) ≤ most_closure) (sym tied) small
+closed_small r (close_spur n) (by_fin m loose) e k =
+    let v : LineState = plain_state r in
+    subst (λ (t : Bool). nat_abs (cond t (closure quarters r.opening.start.height (pos 0) v.sections) (pos 0)) ≤ most_closure) (sym loose) (omega arith)
+closed_small r (open_line _ _ _ _) never e k = elim never [ ]
+closed_small r (station _ _ _) never e k = elim never [ ]
+closed_small r (end_run _) never e k = elim never [ ]
+closed_small r drop_run never e k = elim never [ ]
+closed_small r drop_section never e k = elim never [ ]
+closed_small r (open_spur _ _ _ _) never e k = elim never [ ]
+closed_small r (collimation _) never e k = elim never [ ]
 
-pub figures-fit : FiguresFit
-figures-fit calls e =
-    let c = every-list calls e in
-    let r : Reading = after freshReading c.before in
-    let kept : Kept (plainState (Plain.taken r c.call)) = subst (λ (s : Reading). Kept (plainState s)) c.stays (calls-kept calls) in
+pub figures_fit_lem : FiguresFit
+figures_fit_lem calls e =
+    let c = every_list calls e in
+    let r : Reading = after fresh_reading c.before in
+    let kept : Kept (plain_state (Plain.taken r c.call)) = subst (λ (s : Reading). Kept (plain_state s)) c.stays (calls_kept calls) in
     let shut : (Plain.taken r c.call).stage ≡ Closed = ap (λ (s : Reading). s.stage) (sym c.stays) ∙ e in
-    let v : LineState = plainState (Plain.taken r c.call) in
-    let small = closed-small r c.call c.closes c.accepted kept in
-    subst (λ (s : Reading). (closedFits (figuresOf s).summary ≡ true) × All pointFits (figuresOf s).points) (sym c.stays)
-    (summary-fits v kept shut small, all-fit v kept shut small)
+    let v : LineState = plain_state (Plain.taken r c.call) in
+    let small = closed_small r c.call c.closes c.accepted kept in
+    subst (λ (s : Reading). (closed_fits (figures_of s).summary ≡ true) × All point_fits (figures_of s).points) (sym c.stays)
+    (summary_fits v kept shut small, all_fit_lem v kept shut small)

@@ -3,37 +3,37 @@ use Rattle.std.specs.Prelude.{◌≡◌, Bool, true, false, not, ℕ, ◌≤◌,
 use Rattle.numbers.specs.Numbers.{any_of}
 use Rattle.adjust.specs.declared.Point.{Point}
 use Rattle.adjust.specs.declared.Summary.{Summary}
-use Rattle.columns.specs.Lines.{lineFits, is_wide}
+use Rattle.columns.specs.Lines.{line_fits, is_wide}
 use Rattle.columns.specs.Texts.{lines}
 use Rattle.rules.specs.declared.Stage.TheVariants.{Closed}
 use Rattle.rules.specs.Rules.{Call}
-use Rattle.ledger.specs.Plain.{freshReading, after, figuresOf}
-use Rattle.textbook.specs.Text.{mostText}
-use Rattle.fieldbook.specs.Report.{closedNumbers, pointNumbers, reportLines, report, printedOf}
+use Rattle.ledger.specs.Plain.{fresh_reading, after, figures_of}
+use Rattle.textbook.specs.Text.{most_text}
+use Rattle.fieldbook.specs.Report.{closed_numbers, point_numbers, report_lines, report, printed_of}
 
 -- a buffer of 65,536 bytes, the smallest that is not refused, has room for every report
 abbrev pub ReportFits : Type 0
-ReportFits = (text : List ℕ) → length text ≤ mostText → length (report text) ≤ 65536
+ReportFits = (text : List ℕ) → length text ≤ most_text → length (report text) ≤ 65536
 
 -- and so has the program's own, whatever was read
 abbrev pub PrintedFits : Type 0
-PrintedFits = (input : List ℕ) (n : ℕ) (failed : Bool) → length (printedOf input n failed) ≤ 65536
+PrintedFits = (input : List ℕ) (n : ℕ) (failed : Bool) → length (printed_of input n failed) ≤ 65536
 
 -- every line of a report is whole: its numbers fit their fields
 abbrev pub ReportWhole : Type 0
-ReportWhole = (text : List ℕ) → length text ≤ mostText → any_of (λ (l : List ℕ). not (eqb (length l) 84)) (reportLines (lines text)) ≡ false
+ReportWhole = (text : List ℕ) → length text ≤ most_text → any_of (λ (l : List ℕ). not (eqb (length l) 84)) (report_lines (lines text)) ≡ false
 
 -- ---- fields
 
-abbrev pub closedFits : Summary → Bool
-closedFits s = lineFits 3 (closedNumbers s) false
+abbrev pub closed_fits : Summary → Bool
+closed_fits s = line_fits 3 (closed_numbers s) false
 
-abbrev pub pointFits : Point → Bool
-pointFits p = lineFits 3 (pointNumbers p) (is_wide p.height)
+abbrev pub point_fits : Point → Bool
+point_fits p = line_fits 3 (point_numbers p) (is_wide p.height)
 
 -- whatever the calls: the figures of the line that they leave closed
 abbrev pub FiguresFit : Type 0
 FiguresFit =
-    (calls : List Call) → (after freshReading calls).stage ≡ Closed
-    → (closedFits (figuresOf (after freshReading calls)).summary ≡ true)
-    × (any_of (λ (p : Point). not (pointFits p)) (figuresOf (after freshReading calls)).points ≡ false)
+    (calls : List Call) → (after fresh_reading calls).stage ≡ Closed
+    → (closed_fits (figures_of (after fresh_reading calls)).summary ≡ true)
+    × (any_of (λ (p : Point). not (point_fits p)) (figures_of (after fresh_reading calls)).points ≡ false)

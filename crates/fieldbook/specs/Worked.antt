@@ -4,23 +4,23 @@ use mathlib.Core.List as Lists
 use Prim.Native.Char.{code}
 use Prim.Native.String.{String, [], ◌∷◌, ◌++◌}
 use Rattle.numbers.specs.Numbers.{put_at}
-use Rattle.roots.specs.Round.{roundEven}
-use Rattle.roots.specs.Limit.{isWithin}
-use Rattle.collimation.specs.Collimation.{withinAngle}
-use Rattle.columns.specs.Decimals.{blanks, digitsBy, digits, decimal, fitsIn, pad, same, value_of, hasMinus, candidate, field_of}
-use Rattle.columns.specs.Lines.{lineEnd, lineWith, width_of, fields, all_fit, columnsOf, lineFits, tagLine, is_wide, heading, title}
-use Rattle.columns.specs.Records.{tagAmong, allNumbers, numbersIn, numbersLine, recordIn, lineIn}
-use Rattle.columns.specs.Texts.{linesBy, lines, joined}
-use Rattle.textbook.specs.Text.{refusalsFrom}
-use Rattle.fieldbook.specs.Report.{report, shownT}
+use Rattle.roots.specs.Round.{round_even}
+use Rattle.roots.specs.Limit.{is_within}
+use Rattle.collimation.specs.Collimation.{within_angle}
+use Rattle.columns.specs.Decimals.{blanks, digits_by, digits, decimal, fits_in, pad, same, value_of, has_minus, candidate, field_of}
+use Rattle.columns.specs.Lines.{line_end, line_with, width_of, fields, all_fit, columns_of, line_fits, tag_line, is_wide, heading, title}
+use Rattle.columns.specs.Records.{tag_among, all_numbers, numbers_in, numbers_line, record_in, line_in}
+use Rattle.columns.specs.Texts.{lines_by, lines, joined}
+use Rattle.textbook.specs.Text.{refusals_from}
+use Rattle.fieldbook.specs.Report.{report, shown_t}
 
 -- the bytes of a text in ASCII
 abbrev pub bytes_of : String → List ℕ
 bytes_of [] = Lists.[]
 bytes_of (c ∷ s) = Lists.◌∷◌ (code c) (bytes_of s)
 
-abbrev pub bookA : String
-bookA =
+abbrev pub book_a : String
+book_a =
     "LEVEL BOOK                                                                         \n"
     ++ "LIN       4       3       1   10000                                                \n"
     ++ "ANG    5937    5951    6043    6067    6800   40300                                \n"
@@ -32,21 +32,21 @@ bookA =
     ++ "RUN       3                                                                        \n"
     ++ "END       3   11206                                                                \n"
 
-abbrev pub reportA : String
-reportA =
+abbrev pub report_a : String
+report_a =
     "REDUCED LEVELS                                                                     \n"
     ++ "CLO       8    4164       2       0       0                                        \n"
     ++ "PNT       1       0       0   10000                                                \n"
     ++ "PNT       2    2564      -4   10657                                                \n"
     ++ "PNT       3    4164      -4   11206                                                \n"
 
-pub case-a : report (bytes_of bookA) ≡ bytes_of reportA
-unfolding report linesBy lines joined lineIn recordIn numbersLine tagAmong allNumbers numbersIn put_at heading title lineWith lineEnd field_of candidate hasMinus value_of same pad decimal digits digitsBy blanks tagLine lineFits columnsOf all_fit width_of fitsIn fields is_wide refusalsFrom roundEven isWithin withinAngle
-case-a = refl
+pub case_a : report (bytes_of book_a) ≡ bytes_of report_a
+unfolding report lines_by lines joined line_in record_in numbers_line tag_among all_numbers numbers_in put_at heading title line_with line_end field_of candidate has_minus value_of same pad decimal digits digits_by blanks tag_line line_fits columns_of all_fit width_of fits_in fields is_wide refusals_from round_even is_within within_angle
+case_a = refl
 
 -- T in CLO, up to eight digits and beyond
-pub shown-99999999 : shownT (pos 99999999) ≡ pos 99999999
-shown-99999999 = refl
+pub shown_99999999 : shown_t (pos 99999999) ≡ pos 99999999
+shown_99999999 = refl
 
-pub shown-100000000 : shownT (pos 100000000) ≡ pos 99999999
-shown-100000000 = refl
+pub shown_100000000 : shown_t (pos 100000000) ≡ pos 99999999
+shown_100000000 = refl

@@ -2,7 +2,7 @@
 #![tactic(auto)]
 
 ghost use Rattle.std.specs.Prelude.{◌≡◌, length};
-ghost use Rattle.fieldbook.specs.Report.{bufferAfter, reducedNumber, reducedLength, reducedOf, Reduces, printedOf};
+ghost use Rattle.fieldbook.specs.Report.{buffer_after, reduced_number, reduced_length, reduced_of, Reduces, printed_of};
 ghost use Rattle.numbers.specs.Numbers.{put_at};
 
 use textbook::reader::read_text;
@@ -19,7 +19,7 @@ pub enum Reduced {
 // The report of a text into a lent buffer; bytes beyond it keep their values.
 pub fn reduce_text(text: &[u8], report: &mut [u8]) -> Reduced
     ensures reduces { Reduces text.now report.old result }
-    ensures report_after { report.new ≡ bufferAfter text.now report.old }
+    ensures report_after { report.new ≡ buffer_after text.now report.old }
 {
     let read = read_text(text);
     let number = read.number;
@@ -33,7 +33,7 @@ pub fn reduce_text(text: &[u8], report: &mut [u8]) -> Reduced
 }
 
 fn number_of(r: Reduced) -> u8
-    ensures { result ≡ reducedNumber r }
+    ensures { result ≡ reduced_number r }
 {
     match r {
         Reduced::Written(_) => 0,
@@ -43,7 +43,7 @@ fn number_of(r: Reduced) -> u8
 
 // The length of what was written, and `old` where nothing was.
 fn length_of(r: Reduced, old: usize) -> usize
-    ensures { result ≡ reducedLength r old }
+    ensures { result ≡ reduced_length r old }
 {
     match r {
         Reduced::Written(n) => n,
@@ -54,8 +54,8 @@ fn length_of(r: Reduced, old: usize) -> usize
 // What the program prints, into a buffer of its own: the length of the part to print. The first `count` bytes of `input` are what it read; of an
 // input that could not be read to its end nothing is printed.
 pub fn print_input(input: &[u8; 65269], count: usize, failed: bool, out: &mut [u8; 65536]) -> usize
-    ensures value { result ≡ length (printedOf input.now count failed) }
-    ensures out_after { out.new ≡ put_at out.old 0 (printedOf input.now count failed) }
+    ensures value { result ≡ length (printed_of input.now count failed) }
+    ensures out_after { out.new ≡ put_at out.old 0 (printed_of input.now count failed) }
 {
     if failed {
         return 0;
@@ -70,9 +70,9 @@ pub fn print_input(input: &[u8; 65269], count: usize, failed: bool, out: &mut [u
 
 // `reduce_text` in the form in which it is exported: document 01's number. The report's length goes into `written`.
 pub fn level_reduce(text: &[u8], report: &mut [u8], written: &mut usize) -> u8
-    ensures value { result ≡ reducedNumber (reducedOf text.now report.old) }
-    ensures report_after { report.new ≡ bufferAfter text.now report.old }
-    ensures written_after { written.new ≡ reducedLength (reducedOf text.now report.old) written.old }
+    ensures value { result ≡ reduced_number (reduced_of text.now report.old) }
+    ensures report_after { report.new ≡ buffer_after text.now report.old }
+    ensures written_after { written.new ≡ reduced_length (reduced_of text.now report.old) written.old }
 {
     let r = reduce_text(text, report);
     *written = length_of(r, *written);

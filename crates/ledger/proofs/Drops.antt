@@ -7,27 +7,27 @@ use Prim.Native.Nat.{ℕ}
 use lib.Dec.{eqb}
 use Rattle.rules.specs.declared.Stage.{Stage}
 use Rattle.rules.specs.declared.Stage.TheVariants.{Open}
-use Rattle.rules.specs.LineState.{isOpen}
-use Rattle.rules.specs.Rules.{Call, drop-run, drop-section}
-use Rattle.ledger.specs.Plain.{Reading, Levelled, Awaited, after, next, taken, refusal, withLists}
+use Rattle.rules.specs.LineState.{is_open}
+use Rattle.rules.specs.Rules.{Call, drop_run, drop_section}
+use Rattle.ledger.specs.Plain.{Reading, Levelled, Awaited, after, next, taken, refusal, with_lists}
 use Rattle.ledger.specs.Claims.{RunDropped, SectionDropped}
 
-pub after-append : (r : Reading) (xs ys : List Call) → after r (xs ++ ys) ≡ after (after r xs) ys
-after-append r [] ys = refl
-after-append r (x ∷ xs) ys = after-append (next r x) xs ys
+pub after_append : (r : Reading) (xs ys : List Call) → after r (xs ++ ys) ≡ after (after r xs) ys
+after_append r [] ys = refl
+after_append r (x ∷ xs) ys = after_append (next r x) xs ys
 
 -- an open line takes a call whose one test is 21
-takes : (c : Call) → ((s : Reading) → refusal s c ≡ cond (not (isOpen s.stage)) 21 0) → (s : Reading) → s.stage ≡ Open → next s c ≡ taken s c
+takes : (c : Call) → ((s : Reading) → refusal s c ≡ cond (not (is_open s.stage)) 21 0) → (s : Reading) → s.stage ≡ Open → next s c ≡ taken s c
 takes c only s opened =
-    ap (λ (n : ℕ). cond (eqb n 0) (taken s c) s) (only s ∙ ap (λ (x : Stage). cond (not (isOpen x)) 21 0) opened)
+    ap (λ (n : ℕ). cond (eqb n 0) (taken s c) s) (only s ∙ ap (λ (x : Stage). cond (not (is_open x)) 21 0) opened)
 
-pub run-dropped : RunDropped
-run-dropped r calls opened sections waiting =
+pub run_dropped : RunDropped
+run_dropped r calls opened sections waiting =
     let s : Reading = after r calls in
-    after-append r calls (drop-run ∷ []) ∙ takes drop-run (λ x. refl) s opened
-    ∙ ap₂ (λ (ss : List Levelled) (w : Option Awaited). withLists s ss w []) sections waiting
+    after_append r calls (drop_run ∷ []) ∙ takes drop_run (λ x. refl) s opened
+    ∙ ap₂ (λ (ss : List Levelled) (w : Option Awaited). with_lists s ss w []) sections waiting
 
-pub section-dropped : SectionDropped
-section-dropped r calls opened sections =
+pub section_dropped : SectionDropped
+section_dropped r calls opened sections =
     let s : Reading = after r calls in
-    after-append r calls (drop-section ∷ []) ∙ takes drop-section (λ x. refl) s opened ∙ ap (λ (ss : List Levelled). withLists s ss none []) sections
+    after_append r calls (drop_section ∷ []) ∙ takes drop_section (λ x. refl) s opened ∙ ap (λ (ss : List Levelled). with_lists s ss none []) sections

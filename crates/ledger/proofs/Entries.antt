@@ -5,49 +5,49 @@ use Prim.Native.Nat.{ℕ, suc}
 use lib.ListN.{length}
 use Rattle.rules.specs.declared.Book.{Book}
 use Rattle.book.specs.declared.Step.{Step}
-use Rattle.ledger.specs.Plain.{Reading, next, after, refusal, refusals, plainState}
-use Rattle.ledger.specs.Entries.{Entry, asks, refused, entryRefusal, entryNext, entryStep, entryRefusals, afterEntries, calls_of, callNumbers}
-use Rattle.ledger.proofs.Kept.{Kept, next-kept}
-use Rattle.ledger.proofs.Again.{bookOf}
+use Rattle.ledger.specs.Plain.{Reading, next, after, refusal, refusals, plain_state}
+use Rattle.ledger.specs.Entries.{Entry, asks, refused, entry_refusal, entry_next, entry_step, entry_refusals, after_entries, calls_of, call_numbers}
+use Rattle.ledger.proofs.Kept.{Kept, next_kept}
+use Rattle.ledger.proofs.Again.{book_of}
 use Rattle.ledger.proofs.Traced.{number, left}
 
 -- ---- as the list of their calls
 
-pub reading-calls : (r : Reading) (es : List Entry) → afterEntries r es ≡ after r (calls_of es)
-reading-calls r [] = refl
-reading-calls r (asks c ∷ es) = reading-calls (next r c) es
-reading-calls r (refused n ∷ es) = reading-calls r es
+pub reading_calls : (r : Reading) (es : List Entry) → after_entries r es ≡ after r (calls_of es)
+reading_calls r [] = refl
+reading_calls r (asks c ∷ es) = reading_calls (next r c) es
+reading_calls r (refused n ∷ es) = reading_calls r es
 
-pub numbers-calls : (r : Reading) (es : List Entry) → callNumbers r es ≡ refusals r (calls_of es)
-numbers-calls r [] = refl
-numbers-calls r (asks c ∷ es) = ap (λ (ns : List ℕ). refusal r c ∷ ns) (numbers-calls (next r c) es)
-numbers-calls r (refused n ∷ es) = numbers-calls r es
+pub numbers_calls : (r : Reading) (es : List Entry) → call_numbers r es ≡ refusals r (calls_of es)
+numbers_calls r [] = refl
+numbers_calls r (asks c ∷ es) = ap (λ (ns : List ℕ). refusal r c ∷ ns) (numbers_calls (next r c) es)
+numbers_calls r (refused n ∷ es) = numbers_calls r es
 
 -- ---- one more entry
 
-pub after_more : (r : Reading) (es : List Entry) (e : Entry) → afterEntries r (es ++ (e ∷ [])) ≡ entryNext (afterEntries r es) e
+pub after_more : (r : Reading) (es : List Entry) (e : Entry) → after_entries r (es ++ (e ∷ [])) ≡ entry_next (after_entries r es) e
 after_more r [] e = refl
-after_more r (x ∷ es) e = after_more (entryNext r x) es e
+after_more r (x ∷ es) e = after_more (entry_next r x) es e
 
-pub refusals-more : (r : Reading) (es : List Entry) (e : Entry) → entryRefusals r (es ++ (e ∷ [])) ≡ entryRefusals r es ++ (entryRefusal (afterEntries r es) e ∷ [])
-refusals-more r [] e = refl
-refusals-more r (x ∷ es) e = ap (λ (ns : List ℕ). entryRefusal r x ∷ ns) (refusals-more (entryNext r x) es e)
+pub refusals_more : (r : Reading) (es : List Entry) (e : Entry) → entry_refusals r (es ++ (e ∷ [])) ≡ entry_refusals r es ++ (entry_refusal (after_entries r es) e ∷ [])
+refusals_more r [] e = refl
+refusals_more r (x ∷ es) e = ap (λ (ns : List ℕ). entry_refusal r x ∷ ns) (refusals_more (entry_next r x) es e)
 
-pub refusals-long : (r : Reading) (es : List Entry) → length (entryRefusals r es) ≡ length es
-refusals-long r [] = refl
-refusals-long r (e ∷ es) = ap suc (refusals-long (entryNext r e) es)
+pub refusals_long : (r : Reading) (es : List Entry) → length (entry_refusals r es) ≡ length es
+refusals_long r [] = refl
+refusals_long r (e ∷ es) = ap suc (refusals_long (entry_next r e) es)
 
 -- ---- a book takes an entry as the plain reading does
 
-module _ (r : Reading) (k : Kept (plainState r)) where
-  pub entry_kept : (e : Entry) → Kept (plainState (entryNext r e))
-  entry_kept (asks c) = next-kept r c k
+module _ (r : Reading) (k : Kept (plain_state r)) where
+  pub entry_kept : (e : Entry) → Kept (plain_state (entry_next r e))
+  entry_kept (asks c) = next_kept r c k
   entry_kept (refused n) = k
 
-  pub entry-step : (e : Entry) → entryStep (bookOf r) e ≡ record { number = entryRefusal r e; book = bookOf (entryNext r e) }
-  entry-step (asks c) = λ i. record { number = number r k c i; book = left r k c i }
-  entry-step (refused n) = refl
+  pub entry_step_lem : (e : Entry) → entry_step (book_of r) e ≡ record { number = entry_refusal r e; book = book_of (entry_next r e) }
+  entry_step_lem (asks c) = λ i. record { number = number r k c i; book = left r k c i }
+  entry_step_lem (refused n) = refl
 
-pub entries-kept : (r : Reading) → Kept (plainState r) → (es : List Entry) → Kept (plainState (afterEntries r es))
-entries-kept r k [] = k
-entries-kept r k (e ∷ es) = entries-kept (entryNext r e) (entry_kept r k e) es
+pub entries_kept : (r : Reading) → Kept (plain_state r) → (es : List Entry) → Kept (plain_state (after_entries r es))
+entries_kept r k [] = k
+entries_kept r k (e ∷ es) = entries_kept (entry_next r e) (entry_kept r k e) es

@@ -8,14 +8,14 @@ use Rattle.numbers.specs.Numbers.{sum, last_of}
 use Rattle.adjust.specs.declared.terms.Class.{Class}
 use Rattle.adjust.specs.declared.terms.Class.TheVariants.{Third, Fourth, Spur}
 use Rattle.station.specs.declared.Staffs.{Staffs}
-use Rattle.station.specs.Station.{Station, stationOf, figuresOf, sights, sightDifference, twiceHeight}
+use Rattle.station.specs.Station.{Station, station_of, figures_of, sights, sight_difference, twice_height}
 use Rattle.adjust.specs.declared.Section.{Section}
 use Rattle.rules.specs.declared.Waiting.TheVariants.{Nothing}
-use Rattle.rules.specs.LineState.{LineState, noRun, withStation}
+use Rattle.rules.specs.LineState.{LineState, no_run, with_station}
 use Rattle.rules.specs.Rules as Rules
-use Rattle.rules.specs.Rules.{Call, open-line, station, end-run, drop-run, drop-section, close-line, open-spur, close-spur, collimation, withRuns, withSection}
+use Rattle.rules.specs.Rules.{Call, open_line, station, end_run, drop_run, drop_section, close_line, open_spur, close_spur, collimation, with_runs, with_section}
 use Rattle.ledger.specs.Plain as Plain
-use Rattle.ledger.specs.Plain.{Reading, Levelled, Awaited, run_of, sectionOf, plainState, withLists}
+use Rattle.ledger.specs.Plain.{Reading, Levelled, Awaited, run_of, section_of, plain_state, with_lists}
 
 -- a reading with the class and the waiting list given: the end of a run goes by these two, so a proof goes by their cases and is then used
 -- at `recast r r.opening.class r.waiting`, which is r
@@ -32,50 +32,50 @@ recast r class waiting =
 
 -- ---- one station more
 
-pub sum-append : (f : Station → ℤ) (xs : List Station) (x : Station) → sum (map f (xs ++ (x ∷ []))) ≡ sum (map f xs) +ℤ f x
-sum-append f [] x = +ℤ_comm (f x) (pos 0)
-sum-append f (y ∷ ys) x = ap (λ (z : ℤ). f y +ℤ z) (sum-append f ys x) ∙ sym (+ℤ_assoc (f y) (sum (map f ys)) (f x))
+pub sum_append : (f : Station → ℤ) (xs : List Station) (x : Station) → sum (map f (xs ++ (x ∷ []))) ≡ sum (map f xs) +ℤ f x
+sum_append f [] x = +ℤ_comm (f x) (pos 0)
+sum_append f (y ∷ ys) x = ap (λ (z : ℤ). f y +ℤ z) (sum_append f ys x) ∙ sym (+ℤ_assoc (f y) (sum (map f ys)) (f x))
 
-last-append : (f : Station → ℤ) (a : ℤ) (xs : List Station) (x : Station) → last_of a (map f (xs ++ (x ∷ []))) ≡ f x
-last-append f a [] x = refl
-last-append f a (y ∷ ys) x = last-append f (f y) ys x
+last_append : (f : Station → ℤ) (a : ℤ) (xs : List Station) (x : Station) → last_of a (map f (xs ++ (x ∷ []))) ≡ f x
+last_append f a [] x = refl
+last_append f a (y ∷ ys) x = last_append f (f y) ys x
 
-pub run-append : (c : Staffs) (xs : List Station) (x : Station) → run_of c (xs ++ (x ∷ [])) ≡ withStation (run_of c xs) (figuresOf c x) x.fore.constant
-run-append c xs x = λ i.
+pub run_append : (c : Staffs) (xs : List Station) (x : Station) → run_of c (xs ++ (x ∷ [])) ≡ with_station (run_of c xs) (figures_of c x) x.fore.constant
+run_append c xs x = λ i.
     record {
       count = length-append xs (x ∷ []) i;
-      height = sum-append (twiceHeight c) xs x i;
-      sights = sum-append sights xs x i;
-      difference = sum-append sightDifference xs x i;
-      last = last-append (λ (y : Station). y.fore.constant) (pos 0) xs x i;
+      height = sum_append (twice_height c) xs x i;
+      sights = sum_append sights xs x i;
+      difference = sum_append sight_difference xs x i;
+      last = last_append (λ (y : Station). y.fore.constant) (pos 0) xs x i;
     }
 
 -- ---- one section more
 
-pub section-append : (c : Staffs) (xs : List Levelled) (x : Levelled) → map (sectionOf c) (xs ++ (x ∷ [])) ≡ map (sectionOf c) xs ++ (sectionOf c x ∷ [])
-section-append c [] x = refl
-section-append c (y ∷ ys) x = ap (λ (l : List Section). sectionOf c y ∷ l) (section-append c ys x)
+pub section_append : (c : Staffs) (xs : List Levelled) (x : Levelled) → map (section_of c) (xs ++ (x ∷ [])) ≡ map (section_of c) xs ++ (section_of c x ∷ [])
+section_append c [] x = refl
+section_append c (y ∷ ys) x = ap (λ (l : List Section). section_of c y ∷ l) (section_append c ys x)
 
-finished : (r : Reading) (x : Levelled) → plainState (withLists r (r.sections ++ (x ∷ [])) none []) ≡ withSection (plainState r) (sectionOf r.opening.staffs x)
-finished r x = λ i. record { line = withRuns (plainState r).line Nothing noRun; sections = section-append r.opening.staffs r.sections x i }
+finished : (r : Reading) (x : Levelled) → plain_state (with_lists r (r.sections ++ (x ∷ [])) none []) ≡ with_section (plain_state r) (section_of r.opening.staffs x)
+finished r x = λ i. record { line = with_runs (plain_state r).line Nothing no_run; sections = section_append r.opening.staffs r.sections x i }
 
 ended : (r : Reading) (class : Class) (waiting : Option Awaited) (n : ℤ)
-    → plainState (Plain.runEnded (recast r class waiting) n) ≡ Rules.runEnded (plainState (recast r class waiting)) n
+    → plain_state (Plain.run_ended (recast r class waiting) n) ≡ Rules.run_ended (plain_state (recast r class waiting)) n
 ended r Third none n = refl
 ended r Spur none n = refl
 ended r Fourth none n = finished (recast r Fourth none) (record { number = n; outward = r.present; back = none })
 ended r class (some w) n = finished (recast r class (some w)) (record { number = w.number; outward = w.outward; back = some r.present })
 
 -- for every reading and every call, whether a list of calls leads there or not
-pub follows : (r : Reading) (c : Call) → plainState (Plain.taken r c) ≡ Rules.taken (plainState r) c
-follows r (open-line order instrument number height) = refl
+pub follows : (r : Reading) (c : Call) → plain_state (Plain.taken r c) ≡ Rules.taken (plain_state r) c
+follows r (open_line order instrument number height) = refl
 follows r (station kb kf readings) =
-    let v : LineState = plainState r in
-    λ i. record { line = withRuns v.line v.line.waiting (run-append r.opening.staffs r.present (stationOf kb kf readings) i); sections = v.sections }
-follows r (end-run number) = ended r r.opening.class r.waiting number
-follows r drop-run = refl
-follows r drop-section = refl
-follows r (close-line number end) = refl
-follows r (open-spur order instrument number height) = refl
-follows r (close-spur number) = refl
+    let v : LineState = plain_state r in
+    λ i. record { line = with_runs v.line v.line.waiting (run_append r.opening.staffs r.present (station_of kb kf readings) i); sections = v.sections }
+follows r (end_run number) = ended r r.opening.class r.waiting number
+follows r drop_run = refl
+follows r drop_section = refl
+follows r (close_line number end) = refl
+follows r (open_spur order instrument number height) = refl
+follows r (close_spur number) = refl
 follows r (collimation x) = refl

@@ -11,21 +11,21 @@ use lib.ListN.{length, length-append}
 use lib.IntN.{ℤ, pos, nat_abs}
 use lib.Signed.{◌≤ℤ◌, le_z}
 use Rattle.numbers.specs.Tables.{first_of}
-use Rattle.numbers.proofs.Tests.{by-test, holds, no_true, and_l, and_r, or_l, or_r, not-false}
-use Rattle.numbers.proofs.Tables.{first-skips}
+use Rattle.numbers.proofs.Tests.{by_test, holds, no_true, and_l, and_r, or_l, or_r, not-false}
+use Rattle.numbers.proofs.Tables.{first_skips}
 use Rattle.numbers.proofs.All.{All, all_cons, all_append}
-use Rattle.numbers.proofs.Parts.{ints, parts-abs, test-le}
+use Rattle.numbers.proofs.Parts.{ints, parts_abs, test_le}
 use Rattle.station.specs.declared.Staffs.{Staffs}
 use Rattle.station.specs.declared.Staffs.TheVariants.{Nominal}
 use Rattle.adjust.specs.declared.Opening.{Opening}
 use Rattle.adjust.specs.declared.Section.{Section}
 use Rattle.adjust.specs.declared.terms.Class.TheVariants.{Spur}
 use Rattle.adjust.specs.declared.terms.Terms.{Terms}
-use Rattle.adjust.specs.Terms.{termsOf}
-use Rattle.adjust.specs.Sections.{sectionFits, misfit, heightInRange}
-use Rattle.adjust.specs.Line.{lineLength}
+use Rattle.adjust.specs.Terms.{terms_of}
+use Rattle.adjust.specs.Sections.{section_fits, misfit, height_in_range}
+use Rattle.adjust.specs.Line.{line_length}
 use Rattle.adjust.proofs.Classes.{row}
-use Rattle.adjust.proofs.Lists.{fitted-legs}
+use Rattle.adjust.proofs.Lists.{fitted_legs}
 use Rattle.adjust.proofs.Sized.{long}
 use Rattle.rules.specs.declared.Stage.{Stage}
 use Rattle.rules.specs.declared.Stage.TheVariants.{Fresh, Open, Closed}
@@ -33,21 +33,21 @@ use Rattle.rules.specs.declared.Run.{Run}
 use Rattle.rules.specs.declared.Line.{Line}
 use Rattle.rules.specs.declared.Waiting.{Waiting}
 use Rattle.rules.specs.declared.Waiting.TheVariants.{Nothing, Outward}
-use Rattle.rules.specs.LineState.{LineState, isFresh, isOpen, isClosed, isShut, is_empty, isReturn, outwardOrReturn, noRun, oneWay, bothWays, waitingBroken, misplaced, lineBroken}
-use Rattle.rules.specs.Rules.{Call, open-line, station, end-run, drop-run, drop-section, close-line, open-spur, close-spur, collimation, isClosing, broken, inputTests, stateTests, refusal, bookRefusal, numberInRange, discrepancyWithin, class_of, openingOf, begun, closedAt, withRuns, withSection, runEnded, taken}
+use Rattle.rules.specs.LineState.{LineState, is_fresh, is_open, is_closed, is_shut, is_empty, is_return, outward_or_return, no_run, one_way, both_ways, waiting_broken, misplaced, line_broken}
+use Rattle.rules.specs.Rules.{Call, open_line, station, end_run, drop_run, drop_section, close_line, open_spur, close_spur, collimation, is_closing, broken, input_tests, state_tests, refusal, book_refusal, number_in_range, discrepancy_within, class_of, opening_of, begun, closed_at, with_runs, with_section, run_ended, taken}
 use Rattle.rules.proofs.Tables.{fails}
 use Rattle.ledger.specs.Plain as Plain
-use Rattle.ledger.specs.Plain.{Reading, freshReading, after, next, plainState}
+use Rattle.ledger.specs.Plain.{Reading, fresh_reading, after, next, plain_state}
 use Rattle.ledger.proofs.Follows.{follows}
-use Rattle.ledger.proofs.Runs.{Sized, no-run-sized, station-sized, run_fits, one-way-fits, both-ways-fits, narrow, one-way-narrow, both-ways-narrow}
+use Rattle.ledger.proofs.Runs.{Sized, no_run_sized, station_sized, run_fits_lem, one_way_fits, both_ways_fits, narrow, one_way_narrow, both_ways_narrow}
 
 -- ---- stages
 
-pub open-not-closed : Open ≡ Closed → ⊥
-open-not-closed e = let z : ◌≡◌ {A = ℕ} 0 1 = cc in omega arith
+pub open_not_closed : Open ≡ Closed → ⊥
+open_not_closed e = let z : ◌≡◌ {A = ℕ} 0 1 = cc in omega arith
 
-pub fresh-not-closed : Fresh ≡ Closed → ⊥
-fresh-not-closed e = let z : ◌≡◌ {A = ℕ} 0 1 = cc in omega arith
+pub fresh_not_closed : Fresh ≡ Closed → ⊥
+fresh_not_closed e = let z : ◌≡◌ {A = ℕ} 0 1 = cc in omega arith
 
 -- ---- what is kept
 
@@ -58,25 +58,25 @@ Awaits c n (Outward number run) = Sized c run × (n < 64) × (nat_abs number ≤
 
 pub record Kept (v : LineState) : Type 0 where
   pub few : length v.sections ≤ 64
-  pub fit : All sectionFits v.sections
+  pub fit : All section_fits v.sections
   pub present : Sized v.line.opening.staffs v.line.present
   pub waiting : Awaits v.line.opening.staffs (length v.sections) v.line.waiting
-  pub start : heightInRange v.line.opening.start.height ≡ true
-  pub end : heightInRange v.line.end ≡ true
+  pub start : height_in_range v.line.opening.start.height ≡ true
+  pub end : height_in_range v.line.end ≡ true
   pub closed : v.line.stage ≡ Closed → 1 ≤ length v.sections
   pub placed : misplaced v.line (length v.sections) ≡ false
   -- what the report's fields ask
   pub number : nat_abs v.line.opening.start.number ≤ 9999
-  pub narrow-sections : All (narrow v.line.opening.staffs) v.sections
+  pub narrow_sections : All (narrow v.line.opening.staffs) v.sections
   -- no call gives other constants
   pub nominal : v.line.opening.staffs ≡ Nominal
 
 -- so the test of 20 does not hold
-pub kept-unbroken : (v : LineState) → Kept v → (c : Call) → broken v c ≡ false
-unfolding lineBroken
-kept-unbroken v i call =
-    λ j. (none (isClosing call) j
-    || (not (le-leb (length v.sections) 64 i.few j) || not (run_fits c v.line.present i.present j) || waits v.line.waiting i.waiting j || not (i.start j) || not (i.end j)
+pub kept_unbroken : (v : LineState) → Kept v → (c : Call) → broken v c ≡ false
+unfolding line_broken
+kept_unbroken v i call =
+    λ j. (none (is_closing call) j
+    || (not (le-leb (length v.sections) 64 i.few j) || not (run_fits_lem c v.line.present i.present j) || waits v.line.waiting i.waiting j || not (i.start j) || not (i.end j)
     || i.placed j))
   where
     c : Staffs
@@ -86,37 +86,37 @@ kept-unbroken v i call =
     none true = λ j. not (le-leb (length v.sections) 64 i.few j) || i.fit j
     none false = refl
 
-    waits : (w : Waiting) → Awaits c (length v.sections) w → waitingBroken w (length v.sections) ≡ false
+    waits : (w : Waiting) → Awaits c (length v.sections) w → waiting_broken w (length v.sections) ≡ false
     waits Nothing k = refl
-    waits (Outward number run) k = λ j. not (run_fits c run k.0 j) || lt-leb 64 (length v.sections) k.1 j
+    waits (Outward number run) k = λ j. not (run_fits_lem c run k.0 j) || lt-leb 64 (length v.sections) k.1 j
 
 -- an open line is not fresh: what is left to see is what waits
 abbrev stray : LineState → Bool
-stray v = isReturn v.line.waiting && not (termsOf v.line.opening.class).double
+stray v = is_return v.line.waiting && not (terms_of v.line.opening.class).double
 
 no_stray : (v : LineState) → Kept v → stray v ≡ false
 no_stray v i =
-    let full = isFresh v.line.stage && not (eqb (length v.sections) 0 && eqb v.line.present.count 0 && not (isReturn v.line.waiting)) in
-    or_r full (stray v) (or_l (full || stray v) (isClosed v.line.stage && eqb (length v.sections) 0) i.placed)
+    let full = is_fresh v.line.stage && not (eqb (length v.sections) 0 && eqb v.line.present.count 0 && not (is_return v.line.waiting)) in
+    or_r full (stray v) (or_l (full || stray v) (is_closed v.line.stage && eqb (length v.sections) 0) i.placed)
 
-not-fresh : (s : Stage) → isOpen s ≡ true → isFresh s ≡ false
-not-fresh Fresh e = no_true e
-not-fresh Open e = refl
-not-fresh Closed e = refl
+not_fresh : (s : Stage) → is_open s ≡ true → is_fresh s ≡ false
+not_fresh Fresh e = no_true e
+not_fresh Open e = refl
+not_fresh Closed e = refl
 
-open-placed : (l : Line) (n : ℕ) → isOpen l.stage ≡ true → isReturn l.waiting && not (termsOf l.opening.class).double ≡ false → misplaced l n ≡ false
-open-placed l n o e =
-    λ j. (not-fresh l.stage o j && not (eqb n 0 && eqb l.present.count 0 && not (isReturn l.waiting))) || e j || (not-shut l.stage o j && eqb n 0)
+open_placed : (l : Line) (n : ℕ) → is_open l.stage ≡ true → is_return l.waiting && not (terms_of l.opening.class).double ≡ false → misplaced l n ≡ false
+open_placed l n o e =
+    λ j. (not_fresh l.stage o j && not (eqb n 0 && eqb l.present.count 0 && not (is_return l.waiting))) || e j || (not_shut l.stage o j && eqb n 0)
   where
-    not-shut : (s : Stage) → isOpen s ≡ true → isClosed s ≡ false
-    not-shut Fresh e = refl
-    not-shut Open e = refl
-    not-shut Closed e = no_true e
+    not_shut : (s : Stage) → is_open s ≡ true → is_closed s ≡ false
+    not_shut Fresh e = refl
+    not_shut Open e = refl
+    not_shut Closed e = no_true e
 
 -- other runs beside the same sections
-runs-kept : (v : LineState) (w : Waiting) (u : Run) → Kept v → isOpen v.line.stage ≡ true → Awaits v.line.opening.staffs (length v.sections) w → Sized v.line.opening.staffs u
-    → isReturn w && not (termsOf v.line.opening.class).double ≡ false → Kept (record { line = withRuns v.line w u; sections = v.sections })
-runs-kept v w u i o k h e =
+runs_kept : (v : LineState) (w : Waiting) (u : Run) → Kept v → is_open v.line.stage ≡ true → Awaits v.line.opening.staffs (length v.sections) w → Sized v.line.opening.staffs u
+    → is_return w && not (terms_of v.line.opening.class).double ≡ false → Kept (record { line = with_runs v.line w u; sections = v.sections })
+runs_kept v w u i o k h e =
     record {
       few = i.few;
       fit = i.fit;
@@ -125,51 +125,51 @@ runs-kept v w u i o k h e =
       start = i.start;
       end = i.end;
       closed = i.closed;
-      placed = open-placed (withRuns v.line w u) (length v.sections) o e;
+      placed = open_placed (with_runs v.line w u) (length v.sections) o e;
       number = i.number;
-      narrow-sections = i.narrow-sections;
+      narrow_sections = i.narrow_sections;
       nominal = i.nominal;
     }
 
 -- ---- the end of a run
 
 -- a section more, one that fits and for which there is room
-section-kept : (v : LineState) (x : Section) → Kept v → isOpen v.line.stage ≡ true → length v.sections < 64 → sectionFits x ≡ true
-    → narrow v.line.opening.staffs x ≡ true → Kept (withSection v x)
-section-kept v x i o room e n =
+section_kept : (v : LineState) (x : Section) → Kept v → is_open v.line.stage ≡ true → length v.sections < 64 → section_fits x ≡ true
+    → narrow v.line.opening.staffs x ≡ true → Kept (with_section v x)
+section_kept v x i o room e n =
     let c : Staffs = v.line.opening.staffs in
     record {
       few = rw (length-append v.sections (x ∷ [])) (omega arith);
-      fit = all_append sectionFits v.sections (x ∷ []) i.fit (all_cons sectionFits x [] e refl);
-      present = no-run-sized c;
+      fit = all_append section_fits v.sections (x ∷ []) i.fit (all_cons section_fits x [] e refl);
+      present = no_run_sized c;
       waiting = tt;
       start = i.start;
       end = i.end;
       closed = λ c. rw (length-append v.sections (x ∷ [])) (omega arith);
-      placed = open-placed (withSection v x).line (length (withSection v x).sections) o refl;
+      placed = open_placed (with_section v x).line (length (with_section v x).sections) o refl;
       number = i.number;
-      narrow-sections = all_append (narrow c) v.sections (x ∷ []) i.narrow-sections (all_cons (narrow c) x [] n refl);
+      narrow_sections = all_append (narrow c) v.sections (x ∷ []) i.narrow_sections (all_cons (narrow c) x [] n refl);
       nominal = i.nominal;
     }
 
-number_size : (n : ℤ) → numberInRange n ≡ true → nat_abs n ≤ 9999
+number_size : (n : ℤ) → number_in_range n ≡ true → nat_abs n ≤ 9999
 number_size n e =
-    let low : pos 1 ≤ℤ n = test-le (and_l (le_z (pos 1) n) (le_z n (pos 9999)) e) in
-    let high : n ≤ℤ pos 9999 = test-le (and_r (le_z (pos 1) n) (le_z n (pos 9999)) e) in
-    omega (ints, parts-abs n)
+    let low : pos 1 ≤ℤ n = test_le (and_l (le_z (pos 1) n) (le_z n (pos 9999)) e) in
+    let high : n ≤ℤ pos 9999 = test_le (and_r (le_z (pos 1) n) (le_z n (pos 9999)) e) in
+    omega (ints, parts_abs n)
 
 -- by the tests 4, 21, 29, 31 and 32
-run-kept : (v : LineState) (number : ℤ) → Kept v → refusal v (end-run number) ≡ 0 → Kept (runEnded v number)
-run-kept v number i e =
-    let test = fails v (end-run number) e in
+run_kept : (v : LineState) (number : ℤ) → Kept v → refusal v (end_run number) ≡ 0 → Kept (run_ended v number)
+run_kept v number i e =
+    let test = fails v (end_run number) e in
     let some : 0 < u.count = omega (arith, eqb-false u.count 0 (or_l (eqb u.count 0) (eqb (u.count % 2) 1) (test 29))) in
     go v.line.waiting terms.double refl some i.waiting (test 31) (test 32)
   where
-    running : isOpen v.line.stage ≡ true
-    running = not-false (isOpen v.line.stage) (or_l (not (isOpen v.line.stage)) (isShut v) (fails v (end-run number) e 21))
+    running : is_open v.line.stage ≡ true
+    running = not-false (is_open v.line.stage) (or_l (not (is_open v.line.stage)) (is_shut v) (fails v (end_run number) e 21))
 
     small : nat_abs number ≤ 9999
-    small = number_size number (not-false (numberInRange number) (fails v (end-run number) e 4))
+    small = number_size number (not-false (number_in_range number) (fails v (end_run number) e 4))
 
     c : Staffs
     c = v.line.opening.staffs
@@ -181,55 +181,55 @@ run-kept v number i e =
     n = length v.sections
 
     terms : Terms
-    terms = termsOf v.line.opening.class
+    terms = terms_of v.line.opening.class
 
-    go : (w : Waiting) (t : Bool) → terms.double ≡ t → 0 < u.count → Awaits c n w → not (isReturn w) && leb 64 n ≡ false
-        → outwardOrReturn w false (λ outward run. not (discrepancyWithin terms.apart (bothWays outward run u))) ≡ false
-        → Kept (outwardOrReturn w
-        (cond t (record { line = withRuns v.line (Outward number u) noRun; sections = v.sections }) (withSection v (oneWay number u)))
-        (λ outward run. withSection v (bothWays outward run u)))
-    go Nothing true both some k room d = runs-kept v (Outward number u) noRun i running (i.present, leb-false 64 n room, small) (no-run-sized c) (λ j. not (both j))
+    go : (w : Waiting) (t : Bool) → terms.double ≡ t → 0 < u.count → Awaits c n w → not (is_return w) && leb 64 n ≡ false
+        → outward_or_return w false (λ outward run. not (discrepancy_within terms.apart (both_ways outward run u))) ≡ false
+        → Kept (outward_or_return w
+        (cond t (record { line = with_runs v.line (Outward number u) no_run; sections = v.sections }) (with_section v (one_way number u)))
+        (λ outward run. with_section v (both_ways outward run u)))
+    go Nothing true both some k room d = runs_kept v (Outward number u) no_run i running (i.present, leb-false 64 n room, small) (no_run_sized c) (λ j. not (both j))
     go Nothing false both some k room d =
-        section-kept v (oneWay number u) i running (leb-false 64 n room) (one-way-fits c number u i.present some) (one-way-narrow c number u small i.present)
+        section_kept v (one_way number u) i running (leb-false 64 n room) (one_way_fits c number u i.present some) (one_way_narrow c number u small i.present)
     go (Outward outward run) t both some k room d =
-        let near = not-false (discrepancyWithin terms.apart (bothWays outward run u)) d in
-        section-kept v (bothWays outward run u) i running k.1 (both-ways-fits c terms (row v.line.opening.class) outward run u k.0 i.present some near)
-        (both-ways-narrow c outward run u k.2 k.0 i.present)
+        let near = not-false (discrepancy_within terms.apart (both_ways outward run u)) d in
+        section_kept v (both_ways outward run u) i running k.1 (both_ways_fits c terms (row v.line.opening.class) outward run u k.0 i.present some near)
+        (both_ways_narrow c outward run u k.2 k.0 i.present)
 
 -- ---- a call
 
-not-empty : (ss : List Section) → is_empty ss ≡ false → 1 ≤ length ss
-not-empty [] e = no_true (sym e)
-not-empty (x ∷ xs) e = omega arith
+not_empty : (ss : List Section) → is_empty ss ≡ false → 1 ≤ length ss
+not_empty [] e = no_true (sym e)
+not_empty (x ∷ xs) e = omega arith
 
-running-station : (v : LineState) (kb kf : ℤ) (readings : List (List ℤ)) → refusal v (station kb kf readings) ≡ 0 → isOpen v.line.stage ≡ true
-running-station v kb kf readings e =
-    not-false (isOpen v.line.stage)
-    (or_l (not (isOpen v.line.stage)) (isShut v) (fails v (station kb kf readings) e 21))
+running_station : (v : LineState) (kb kf : ℤ) (readings : List (List ℤ)) → refusal v (station kb kf readings) ≡ 0 → is_open v.line.stage ≡ true
+running_station v kb kf readings e =
+    not-false (is_open v.line.stage)
+    (or_l (not (is_open v.line.stage)) (is_shut v) (fails v (station kb kf readings) e 21))
 
 -- a line that is opened, by the tests 4 and 5
-opened-kept : (o : Opening) → not (numberInRange o.start.number) ≡ false → not (heightInRange o.start.height) ≡ false → o.staffs ≡ Nominal
+opened_kept : (o : Opening) → not (number_in_range o.start.number) ≡ false → not (height_in_range o.start.height) ≡ false → o.staffs ≡ Nominal
     → Kept (record { line = begun o; sections = [] })
-opened-kept o four five nominal =
+opened_kept o four five nominal =
     record {
       few = omega arith;
       fit = refl;
-      present = no-run-sized o.staffs;
+      present = no_run_sized o.staffs;
       waiting = tt;
-      start = not-false (heightInRange o.start.height) five;
+      start = not-false (height_in_range o.start.height) five;
       end = refl;
-      closed = λ c. absurd (open-not-closed c);
+      closed = λ c. absurd (open_not_closed c);
       placed = refl;
-      number = number_size o.start.number (not-false (numberInRange o.start.number) four);
-      narrow-sections = refl;
+      number = number_size o.start.number (not-false (number_in_range o.start.number) four);
+      narrow_sections = refl;
       nominal = nominal;
     }
 
 -- one that is closed on a height in range, by the test 33
-closed-kept : (v : LineState) (end : ℤ) → Kept v → heightInRange end ≡ true → not (eqb v.line.present.count 0) || isReturn v.line.waiting || is_empty v.sections ≡ false
-    → Kept (record { line = closedAt v.line end; sections = v.sections })
-closed-kept v end i known ready =
-    let some : 1 ≤ length v.sections = not-empty v.sections (or_r (not (eqb v.line.present.count 0) || isReturn v.line.waiting) (is_empty v.sections) ready) in
+closed_kept : (v : LineState) (end : ℤ) → Kept v → height_in_range end ≡ true → not (eqb v.line.present.count 0) || is_return v.line.waiting || is_empty v.sections ≡ false
+    → Kept (record { line = closed_at v.line end; sections = v.sections })
+closed_kept v end i known ready =
+    let some : 1 ≤ length v.sections = not_empty v.sections (or_r (not (eqb v.line.present.count 0) || is_return v.line.waiting) (is_empty v.sections) ready) in
     record {
       few = i.few;
       fit = i.fit;
@@ -240,25 +240,25 @@ closed-kept v end i known ready =
       closed = λ c. some;
       placed = λ j. no_stray v i j || ne_eqb (length v.sections) 0 (λ z. omega arith) j;
       number = i.number;
-      narrow-sections = i.narrow-sections;
+      narrow_sections = i.narrow_sections;
       nominal = i.nominal;
     }
 
-taken-kept : (v : LineState) (c : Call) → Kept v → refusal v c ≡ 0 → Kept (taken v c)
-taken-kept v (open-line order instrument number height) i e =
-    let test = fails v (open-line order instrument number height) e in opened-kept (openingOf (class_of order) instrument number height) (test 4) (test 5) refl
-taken-kept v (station kb kf readings) i e =
-    runs-kept v v.line.waiting _ i (running-station v kb kf readings e) i.waiting (station-sized v kb kf readings e i.present) (no_stray v i)
-taken-kept v (end-run number) i e = run-kept v number i e
-taken-kept v drop-run i e =
-    runs-kept v v.line.waiting noRun i (not-false (isOpen v.line.stage) (fails v drop-run e 21)) i.waiting (no-run-sized v.line.opening.staffs) (no_stray v i)
-taken-kept v drop-section i e = runs-kept v Nothing noRun i (not-false (isOpen v.line.stage) (fails v drop-section e 21)) tt (no-run-sized v.line.opening.staffs) refl
-taken-kept v (close-line number end) i e =
-    let test = fails v (close-line number end) e in closed-kept v end i (not-false (heightInRange end) (test 5)) (test 33)
-taken-kept v (open-spur order instrument number height) i e =
-    let test = fails v (open-spur order instrument number height) e in opened-kept (openingOf Spur instrument number height) (test 4) (test 5) refl
-taken-kept v (close-spur number) i e = closed-kept v (pos 0) i refl (fails v (close-spur number) e 33)
-taken-kept v (collimation x) i e =
+taken_kept : (v : LineState) (c : Call) → Kept v → refusal v c ≡ 0 → Kept (taken v c)
+taken_kept v (open_line order instrument number height) i e =
+    let test = fails v (open_line order instrument number height) e in opened_kept (opening_of (class_of order) instrument number height) (test 4) (test 5) refl
+taken_kept v (station kb kf readings) i e =
+    runs_kept v v.line.waiting _ i (running_station v kb kf readings e) i.waiting (station_sized v kb kf readings e i.present) (no_stray v i)
+taken_kept v (end_run number) i e = run_kept v number i e
+taken_kept v drop_run i e =
+    runs_kept v v.line.waiting no_run i (not-false (is_open v.line.stage) (fails v drop_run e 21)) i.waiting (no_run_sized v.line.opening.staffs) (no_stray v i)
+taken_kept v drop_section i e = runs_kept v Nothing no_run i (not-false (is_open v.line.stage) (fails v drop_section e 21)) tt (no_run_sized v.line.opening.staffs) refl
+taken_kept v (close_line number end) i e =
+    let test = fails v (close_line number end) e in closed_kept v end i (not-false (height_in_range end) (test 5)) (test 33)
+taken_kept v (open_spur order instrument number height) i e =
+    let test = fails v (open_spur order instrument number height) e in opened_kept (opening_of Spur instrument number height) (test 4) (test 5) refl
+taken_kept v (close_spur number) i e = closed_kept v (pos 0) i refl (fails v (close_spur number) e 33)
+taken_kept v (collimation x) i e =
     record {
       few = i.few;
       fit = i.fit;
@@ -269,90 +269,90 @@ taken-kept v (collimation x) i e =
       closed = i.closed;
       placed = i.placed;
       number = i.number;
-      narrow-sections = i.narrow-sections;
+      narrow_sections = i.narrow_sections;
       nominal = i.nominal;
     }
 
 -- ---- no call shortens the list of sections: one that opens a line finds none
 
-fresh-none : (v : LineState) → Kept v → isFresh v.line.stage ≡ true → length v.sections ≡ 0
-fresh-none v i e =
+fresh_none : (v : LineState) → Kept v → is_fresh v.line.stage ≡ true → length v.sections ≡ 0
+fresh_none v i e =
     let n = eqb (length v.sections) 0 in
     let u = eqb v.line.present.count 0 in
-    let w = not (isReturn v.line.waiting) in
-    let shut = isClosed v.line.stage && n in
-    let full = or_l (isFresh v.line.stage && not (n && u && w)) (stray v) (or_l (isFresh v.line.stage && not (n && u && w) || stray v) shut i.placed) in
+    let w = not (is_return v.line.waiting) in
+    let shut = is_closed v.line.stage && n in
+    let full = or_l (is_fresh v.line.stage && not (n && u && w)) (stray v) (or_l (is_fresh v.line.stage && not (n && u && w) || stray v) shut i.placed) in
     let empty = not-false (n && u && w) (sym (λ j. e j && not (n && u && w)) ∙ full) in
     eqb→eq (length v.sections) 0 (holds (and_l n u (and_l (n && u) w empty)))
 
-run-longer : (v : LineState) (number : ℤ) (w : Waiting) (t : Bool)
+run_longer : (v : LineState) (number : ℤ) (w : Waiting) (t : Bool)
     → length v.sections
-    ≤ length (outwardOrReturn w
-    (cond t (record { line = withRuns v.line (Outward number v.line.present) noRun; sections = v.sections }) (withSection v (oneWay number v.line.present)))
-    (λ outward run. withSection v (bothWays outward run v.line.present))).sections
-run-longer v number Nothing true = le_refl (length v.sections)
-run-longer v number Nothing false = rw (length-append v.sections (oneWay number v.line.present ∷ [])) (omega arith)
-run-longer v number (Outward outward run) t = rw (length-append v.sections (bothWays outward run v.line.present ∷ [])) (omega arith)
+    ≤ length (outward_or_return w
+    (cond t (record { line = with_runs v.line (Outward number v.line.present) no_run; sections = v.sections }) (with_section v (one_way number v.line.present)))
+    (λ outward run. with_section v (both_ways outward run v.line.present))).sections
+run_longer v number Nothing true = le_refl (length v.sections)
+run_longer v number Nothing false = rw (length-append v.sections (one_way number v.line.present ∷ [])) (omega arith)
+run_longer v number (Outward outward run) t = rw (length-append v.sections (both_ways outward run v.line.present ∷ [])) (omega arith)
 
-pub no-shorter : (v : LineState) (c : Call) → Kept v → refusal v c ≡ 0 → length v.sections ≤ length (taken v c).sections
-no-shorter v (open-line order instrument number height) i e =
-    omega (arith, fresh-none v i (not-false (isFresh v.line.stage) (fails v (open-line order instrument number height) e 21)))
-no-shorter v (station kb kf readings) i e = le_refl (length v.sections)
-no-shorter v (end-run number) i e = run-longer v number v.line.waiting (termsOf v.line.opening.class).double
-no-shorter v drop-run i e = le_refl (length v.sections)
-no-shorter v drop-section i e = le_refl (length v.sections)
-no-shorter v (close-line number end) i e = le_refl (length v.sections)
-no-shorter v (open-spur order instrument number height) i e =
-    omega (arith, fresh-none v i (not-false (isFresh v.line.stage) (fails v (open-spur order instrument number height) e 21)))
-no-shorter v (close-spur number) i e = le_refl (length v.sections)
-no-shorter v (collimation x) i e = le_refl (length v.sections)
+pub no_shorter : (v : LineState) (c : Call) → Kept v → refusal v c ≡ 0 → length v.sections ≤ length (taken v c).sections
+no_shorter v (open_line order instrument number height) i e =
+    omega (arith, fresh_none v i (not-false (is_fresh v.line.stage) (fails v (open_line order instrument number height) e 21)))
+no_shorter v (station kb kf readings) i e = le_refl (length v.sections)
+no_shorter v (end_run number) i e = run_longer v number v.line.waiting (terms_of v.line.opening.class).double
+no_shorter v drop_run i e = le_refl (length v.sections)
+no_shorter v drop_section i e = le_refl (length v.sections)
+no_shorter v (close_line number end) i e = le_refl (length v.sections)
+no_shorter v (open_spur order instrument number height) i e =
+    omega (arith, fresh_none v i (not-false (is_fresh v.line.stage) (fails v (open_spur order instrument number height) e 21)))
+no_shorter v (close_spur number) i e = le_refl (length v.sections)
+no_shorter v (collimation x) i e = le_refl (length v.sections)
 
 -- ---- a list of calls
 
-pub next-kept : (r : Reading) (c : Call) → Kept (plainState r) → Kept (plainState (next r c))
-next-kept r c i =
-    by-test (eqb (refusal (plainState r) c) 0) (λ t. Kept (plainState (cond t (Plain.taken r c) r)))
-    (λ t. subst Kept (sym (follows r c)) (taken-kept (plainState r) c i (eqb→eq (refusal (plainState r) c) 0 t))) (λ t. i)
+pub next_kept : (r : Reading) (c : Call) → Kept (plain_state r) → Kept (plain_state (next r c))
+next_kept r c i =
+    by_test (eqb (refusal (plain_state r) c) 0) (λ t. Kept (plain_state (cond t (Plain.taken r c) r)))
+    (λ t. subst Kept (sym (follows r c)) (taken_kept (plain_state r) c i (eqb→eq (refusal (plain_state r) c) 0 t))) (λ t. i)
 
-after_kept : (calls : List Call) (r : Reading) → Kept (plainState r) → Kept (plainState (after r calls))
+after_kept : (calls : List Call) (r : Reading) → Kept (plain_state r) → Kept (plain_state (after r calls))
 after_kept [] r i = i
-after_kept (c ∷ cs) r i = after_kept cs (next r c) (next-kept r c i)
+after_kept (c ∷ cs) r i = after_kept cs (next r c) (next_kept r c i)
 
-pub fresh_kept : Kept (plainState freshReading)
+pub fresh_kept : Kept (plain_state fresh_reading)
 fresh_kept =
     record {
       few = omega arith;
       fit = refl;
-      present = no-run-sized Nominal;
+      present = no_run_sized Nominal;
       waiting = tt;
       start = refl;
       end = refl;
-      closed = λ c. absurd (fresh-not-closed c);
+      closed = λ c. absurd (fresh_not_closed c);
       placed = refl;
       number = omega arith;
-      narrow-sections = refl;
+      narrow_sections = refl;
       nominal = refl;
     }
 
-pub calls-kept : (calls : List Call) → Kept (plainState (after freshReading calls))
-calls-kept calls = after_kept calls freshReading fresh_kept
+pub calls_kept : (calls : List Call) → Kept (plain_state (after fresh_reading calls))
+calls_kept calls = after_kept calls fresh_reading fresh_kept
 
 -- ---- so a book made by calls never meets the test of 20
 
-pub never-broken : (calls : List Call) (c : Call) → broken (plainState (after freshReading calls)) c ≡ false
-never-broken calls c = kept-unbroken (plainState (after freshReading calls)) (calls-kept calls) c
+pub never_broken : (calls : List Call) (c : Call) → broken (plain_state (after fresh_reading calls)) c ≡ false
+never_broken calls c = kept_unbroken (plain_state (after fresh_reading calls)) (calls_kept calls) c
 
 -- and a book gives the number that the rules give
-pub same-refusal : (v : LineState) (c : Call) → Kept v → bookRefusal v c ≡ refusal v c
-unfolding bookRefusal
-same-refusal v c i =
-    ap (λ (b : Bool). first_of (inputTests c ++ ((20, b) ∷ stateTests v c))) (kept-unbroken v i c) ∙ first-skips (inputTests c) (stateTests v c) 20
+pub same_refusal : (v : LineState) (c : Call) → Kept v → book_refusal v c ≡ refusal v c
+unfolding book_refusal
+same_refusal v c i =
+    ap (λ (b : Bool). first_of (input_tests c ++ ((20, b) ∷ state_tests v c))) (kept_unbroken v i c) ∙ first_skips (input_tests c) (state_tests v c) 20
 
 -- ---- the length
 
-pub closed-long : (calls : List Call) → (after freshReading calls).stage ≡ Closed
-    → pos 1 ≤ℤ lineLength (plainState (after freshReading calls)).sections
-closed-long calls e =
-    let i : Kept (plainState (after freshReading calls)) = calls-kept calls in
-    let ss : List Section = (plainState (after freshReading calls)).sections in
-    omega (ints, long ss (fitted-legs ss i.fit), i.closed e)
+pub closed_long : (calls : List Call) → (after fresh_reading calls).stage ≡ Closed
+    → pos 1 ≤ℤ line_length (plain_state (after fresh_reading calls)).sections
+closed_long calls e =
+    let i : Kept (plain_state (after fresh_reading calls)) = calls_kept calls in
+    let ss : List Section = (plain_state (after fresh_reading calls)).sections in
+    omega (ints, long ss (fitted_legs ss i.fit), i.closed e)

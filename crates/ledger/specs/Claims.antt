@@ -4,13 +4,13 @@ use Rattle.std.specs.Prelude.{◌≡◌, Bool, true, false, cond, List, [], ◌�
 use Rattle.std.proofs.Math.Option.{none}
 use Rattle.numbers.specs.Tables.{Lowest}
 use Rattle.adjust.specs.declared.Point.{Point}
-use Rattle.adjust.specs.Terms.{termsOf}
-use Rattle.adjust.specs.Line.{quarters, lineFrame, Closing, closing}
-use Rattle.adjust.specs.Claims.{Near, corrections, lastHeight, rawHeights}
+use Rattle.adjust.specs.Terms.{terms_of}
+use Rattle.adjust.specs.Line.{quarters, line_frame, Closing, closing}
+use Rattle.adjust.specs.Claims.{Near, corrections, last_height, raw_heights}
 use Rattle.rules.specs.declared.Stage.TheVariants.{Open, Closed}
 use Rattle.rules.specs.LineState.{LineState}
-use Rattle.rules.specs.Rules.{Call, drop-run, drop-section, close-line, close-spur, bookTests, bookRefusal, rank}
-use Rattle.ledger.specs.Plain.{Reading, freshReading, after, next, taken, refusal, plainState, withLists, closings}
+use Rattle.rules.specs.Rules.{Call, drop_run, drop_section, close_line, close_spur, book_tests, book_refusal, rank}
+use Rattle.ledger.specs.Plain.{Reading, fresh_reading, after, next, taken, refusal, plain_state, with_lists, closings}
 
 -- ---- a closing
 
@@ -22,9 +22,9 @@ others (p ∷ ps) = ps
 -- the end of a line that is tied to a known height
 pub record KnownEnd (end : ℤ) (gave : Closing) : Type 0 where
   -- the corrections of all points use up the closure
-  pub used-up : corrections gave.points ≡ neg_ℤ gave.summary.closure
+  pub used_up : corrections gave.points ≡ neg_ℤ gave.summary.closure
   -- the last height is the known one
-  pub last : lastHeight (pos 0) gave.points ≡ end
+  pub last : last_height (pos 0) gave.points ≡ end
 
 -- by whether it is tied: of a spur neither of these is promised, and its closure is 0
 abbrev pub Ends : Bool → ℤ → Closing → Type 0
@@ -37,19 +37,19 @@ pub record SoundClosing (v : LineState) (gave : Closing) : Type 0 where
   pub figures : gave ≡ closing v.line.opening v.line.end v.sections
   -- the bounds of `near` are multiples of L, so they bind
   pub long : pos 1 ≤ℤ gave.summary.distance
-  pub near : Near (lineFrame v.line.opening v.line.end v.sections) (pos 0) (pos 0) v.sections (others gave.points)
-  pub ends : Ends (termsOf v.line.opening.class).tied v.line.end gave
+  pub near : Near (line_frame v.line.opening v.line.end v.sections) (pos 0) (pos 0) v.sections (others gave.points)
+  pub ends : Ends (terms_of v.line.opening.class).tied v.line.end gave
 
 -- a spur's heights are start plus running Q, rounded to even
 abbrev pub SpurHeights : Type 0
 SpurHeights =
-    (v : LineState) (gave : Closing) → SoundClosing v gave → (termsOf v.line.opening.class).tied ≡ false
-    → map (λ (p : Point). p.height) (others gave.points) ≡ rawHeights 4 (quarters *ℤ v.line.opening.start.height) v.sections
+    (v : LineState) (gave : Closing) → SoundClosing v gave → (terms_of v.line.opening.class).tied ≡ false
+    → map (λ (p : Point). p.height) (others gave.points) ≡ raw_heights 4 (quarters *ℤ v.line.opening.start.height) v.sections
 
 -- the call that closes a line: END where it is tied to a known height, and FIN where it is not, as on a spur
 pub data ClosedBy (r : Reading) : Call → Type 0 where
-  by_end : (number end : ℤ) → (termsOf r.opening.class).tied ≡ true → ClosedBy r (close-line number end)
-  by-fin : (number : ℤ) → (termsOf r.opening.class).tied ≡ false → ClosedBy r (close-spur number)
+  by_end : (number end : ℤ) → (terms_of r.opening.class).tied ≡ true → ClosedBy r (close_line number end)
+  by_fin : (number : ℤ) → (terms_of r.opening.class).tied ≡ false → ClosedBy r (close_spur number)
 
 -- one closing was taken in the list, of what the calls before it left; it was sound, and no later call changed anything.
 -- `all` is what the list's closings gave
@@ -58,36 +58,36 @@ pub record ClosedOnce (calls : List Call) (all : List Closing) : Type 0 where
   pub call : Call
   pub later : List Call
   pub split : calls ≡ before ++ (call ∷ later)
-  pub closes : ClosedBy (after freshReading before) call
-  pub accepted : refusal (after freshReading before) call ≡ 0
+  pub closes : ClosedBy (after fresh_reading before) call
+  pub accepted : refusal (after fresh_reading before) call ≡ 0
   pub gave : Closing
   pub once : all ≡ gave ∷ []
-  pub sound : SoundClosing (plainState (taken (after freshReading before) call)) gave
-  pub stays : after freshReading calls ≡ taken (after freshReading before) call
+  pub sound : SoundClosing (plain_state (taken (after fresh_reading before) call)) gave
+  pub stays : after fresh_reading calls ≡ taken (after fresh_reading before) call
 
 -- whatever the calls, taken or refused: a line that they leave closed was closed once and soundly
 abbrev pub EveryList : Type 0
-EveryList = (calls : List Call) → (after freshReading calls).stage ≡ Closed → ClosedOnce calls (closings freshReading calls)
+EveryList = (calls : List Call) → (after fresh_reading calls).stage ≡ Closed → ClosedOnce calls (closings fresh_reading calls)
 
 -- ---- the number given
 
 -- a book answers the lowest number that applies
 abbrev pub LowestGiven : Type 0
-LowestGiven = (v : LineState) (c : Call) → Lowest rank (bookTests v c) (bookRefusal v c)
+LowestGiven = (v : LineState) (c : Call) → Lowest rank (book_tests v c) (book_refusal v c)
 
 -- ---- refused calls
 
 -- the calls of a list that are taken
-abbrev pub takenOnly : Reading → List Call → List Call
-takenOnly r [] = []
-takenOnly r (c ∷ cs) = cond (eqb (refusal r c) 0) (c ∷ []) [] ++ takenOnly (next r c) cs
+abbrev pub taken_only : Reading → List Call → List Call
+taken_only r [] = []
+taken_only r (c ∷ cs) = cond (eqb (refusal r c) 0) (c ∷ []) [] ++ taken_only (next r c) cs
 
 -- a list without its refused calls leaves the same, and its closings give the same
 abbrev pub StruckOut : Type 0
 StruckOut =
     (calls : List Call)
-    → (after freshReading (takenOnly freshReading calls) ≡ after freshReading calls)
-    × (closings freshReading (takenOnly freshReading calls) ≡ closings freshReading calls)
+    → (after fresh_reading (taken_only fresh_reading calls) ≡ after fresh_reading calls)
+    × (closings fresh_reading (taken_only fresh_reading calls) ≡ closings fresh_reading calls)
 
 -- ---- dropped calls
 
@@ -96,10 +96,10 @@ StruckOut =
 abbrev pub RunDropped : Type 0
 RunDropped =
     (r : Reading) (calls : List Call) → (after r calls).stage ≡ Open → (after r calls).sections ≡ r.sections → (after r calls).waiting ≡ r.waiting
-    → after r (calls ++ (drop-run ∷ [])) ≡ withLists (after r calls) r.sections r.waiting []
+    → after r (calls ++ (drop_run ∷ [])) ≡ with_lists (after r calls) r.sections r.waiting []
 
 -- the same of drop section, whatever waits after them: nothing does then
 abbrev pub SectionDropped : Type 0
 SectionDropped =
     (r : Reading) (calls : List Call) → (after r calls).stage ≡ Open → (after r calls).sections ≡ r.sections
-    → after r (calls ++ (drop-section ∷ [])) ≡ withLists (after r calls) r.sections none []
+    → after r (calls ++ (drop_section ∷ [])) ≡ with_lists (after r calls) r.sections none []

@@ -20,45 +20,45 @@ entry_of (Record t) v = asks (call_of t v)
 entry_of (Refused n) v = refused n
 
 -- its number, 0 where its call is taken, and the reading after it
-abbrev pub entryRefusal : Reading → Entry → ℕ
-entryRefusal r (asks c) = refusal r c
-entryRefusal r (refused n) = n
+abbrev pub entry_refusal : Reading → Entry → ℕ
+entry_refusal r (asks c) = refusal r c
+entry_refusal r (refused n) = n
 
-abbrev pub entryNext : Reading → Entry → Reading
-entryNext r (asks c) = next r c
-entryNext r (refused n) = r
+abbrev pub entry_next : Reading → Entry → Reading
+entry_next r (asks c) = next r c
+entry_next r (refused n) = r
 
 -- the same of a book
-abbrev pub entryStep : Book → Entry → Step
-entryStep b (asks c) = step_of b c
-entryStep b (refused n) = record { number = n; book = b }
+abbrev pub entry_step : Book → Entry → Step
+entry_step b (asks c) = step_of b c
+entry_step b (refused n) = record { number = n; book = b }
 
 -- ---- a list of entries
 
-abbrev pub entryRefusals : Reading → List Entry → List ℕ
-entryRefusals r [] = []
-entryRefusals r (e ∷ es) = entryRefusal r e ∷ entryRefusals (entryNext r e) es
+abbrev pub entry_refusals : Reading → List Entry → List ℕ
+entry_refusals r [] = []
+entry_refusals r (e ∷ es) = entry_refusal r e ∷ entry_refusals (entry_next r e) es
 
-abbrev pub afterEntries : Reading → List Entry → Reading
-afterEntries r [] = r
-afterEntries r (e ∷ es) = afterEntries (entryNext r e) es
+abbrev pub after_entries : Reading → List Entry → Reading
+after_entries r [] = r
+after_entries r (e ∷ es) = after_entries (entry_next r e) es
 
 -- their calls, to which the claims about lists of calls apply
-abbrev pub callsIn : Entry → List Call
-callsIn (asks c) = c ∷ []
-callsIn (refused n) = []
+abbrev pub calls_in : Entry → List Call
+calls_in (asks c) = c ∷ []
+calls_in (refused n) = []
 
 abbrev pub calls_of : List Entry → List Call
 calls_of [] = []
-calls_of (e ∷ es) = callsIn e ++ calls_of es
+calls_of (e ∷ es) = calls_in e ++ calls_of es
 
 -- of a number for each entry, those of the entries that ask for a call
-abbrev pub ofCalls : List Entry → List ℕ → List ℕ
-ofCalls [] ns = []
-ofCalls (asks c ∷ es) [] = []
-ofCalls (asks c ∷ es) (n ∷ ns) = n ∷ ofCalls es ns
-ofCalls (refused m ∷ es) [] = []
-ofCalls (refused m ∷ es) (n ∷ ns) = ofCalls es ns
+abbrev pub of_calls : List Entry → List ℕ → List ℕ
+of_calls [] ns = []
+of_calls (asks c ∷ es) [] = []
+of_calls (asks c ∷ es) (n ∷ ns) = n ∷ of_calls es ns
+of_calls (refused m ∷ es) [] = []
+of_calls (refused m ∷ es) (n ∷ ns) = of_calls es ns
 
-abbrev pub callNumbers : Reading → List Entry → List ℕ
-callNumbers r es = ofCalls es (entryRefusals r es)
+abbrev pub call_numbers : Reading → List Entry → List ℕ
+call_numbers r es = of_calls es (entry_refusals r es)

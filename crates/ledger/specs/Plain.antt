@@ -7,19 +7,19 @@ use Rattle.adjust.specs.declared.terms.Class.TheVariants.{Fourth, Spur}
 use Rattle.station.specs.declared.Instrument.TheVariants.{Ds3}
 use Rattle.station.specs.declared.Staffs.{Staffs}
 use Rattle.station.specs.declared.Staffs.TheVariants.{Nominal}
-use Rattle.station.specs.Station.{Station, stationOf, sights, sightDifference, twiceHeight}
+use Rattle.station.specs.Station.{Station, station_of, sights, sight_difference, twice_height}
 use Rattle.adjust.specs.declared.Opening.{Opening}
 use Rattle.adjust.specs.declared.Section.{Section}
-use Rattle.adjust.specs.Terms.{termsOf}
+use Rattle.adjust.specs.Terms.{terms_of}
 use Rattle.adjust.specs.Line.{Closing, closing}
 use Rattle.rules.specs.declared.Stage.{Stage}
 use Rattle.rules.specs.declared.Stage.TheVariants.{Fresh, Open, Closed}
 use Rattle.rules.specs.declared.Run.{Run}
 use Rattle.rules.specs.declared.Waiting.{Waiting}
 use Rattle.rules.specs.declared.Waiting.TheVariants.{Nothing, Outward}
-use Rattle.rules.specs.LineState.{LineState, oneWay, bothWays}
+use Rattle.rules.specs.LineState.{LineState, one_way, both_ways}
 use Rattle.rules.specs.Rules as Rules
-use Rattle.rules.specs.Rules.{Call, open-line, station, end-run, drop-run, drop-section, close-line, open-spur, close-spur, collimation, class_of, openingOf, collimated, isClosing}
+use Rattle.rules.specs.Rules.{Call, open_line, station, end_run, drop_run, drop_section, close_line, open_spur, close_spur, collimation, class_of, opening_of, collimated, is_closing}
 
 -- a finished section: its number, its outward list and, where it was levelled both ways, its return list
 pub record Levelled : Type 0 where
@@ -48,25 +48,25 @@ abbrev pub run_of : Staffs → List Station → Run
 run_of c xs =
     record {
       count = length xs;
-      height = sum (map (twiceHeight c) xs);
+      height = sum (map (twice_height c) xs);
       sights = sum (map sights xs);
-      difference = sum (map sightDifference xs);
+      difference = sum (map sight_difference xs);
       last = last_of (pos 0) (map (λ (x : Station). x.fore.constant) xs);
     }
 
-abbrev pub sectionOf : Staffs → Levelled → Section
-sectionOf c x = go x.back
+abbrev pub section_of : Staffs → Levelled → Section
+section_of c x = go x.back
   where
     go : Option (List Station) → Section
-    go none = oneWay x.number (run_of c x.outward)
-    go (some back) = bothWays x.number (run_of c x.outward) (run_of c back)
+    go none = one_way x.number (run_of c x.outward)
+    go (some back) = both_ways x.number (run_of c x.outward) (run_of c back)
 
-abbrev pub waitingOf : Staffs → Option Awaited → Waiting
-waitingOf c none = Nothing
-waitingOf c (some w) = Outward w.number (run_of c w.outward)
+abbrev pub waiting_of : Staffs → Option Awaited → Waiting
+waiting_of c none = Nothing
+waiting_of c (some w) = Outward w.number (run_of c w.outward)
 
-abbrev pub plainState : Reading → LineState
-plainState r =
+abbrev pub plain_state : Reading → LineState
+plain_state r =
     let c : Staffs = r.opening.staffs in
     record {
       line =
@@ -74,17 +74,17 @@ plainState r =
             stage = r.stage;
             opening = r.opening;
             end = r.end;
-            waiting = waitingOf c r.waiting;
+            waiting = waiting_of c r.waiting;
             present = run_of c r.present;
           };
-      sections = map (sectionOf c) r.sections;
+      sections = map (section_of c) r.sections;
     }
 
 -- ---- what is kept of a call that is taken
 
 -- the reading with other lists
-abbrev pub withLists : Reading → List Levelled → Option Awaited → List Station → Reading
-withLists r sections waiting present =
+abbrev pub with_lists : Reading → List Levelled → Option Awaited → List Station → Reading
+with_lists r sections waiting present =
     record {
       stage = r.stage;
       opening = r.opening;
@@ -94,16 +94,16 @@ withLists r sections waiting present =
       present = present;
     }
 
-abbrev pub runEnded : Reading → ℤ → Reading
-runEnded r number = go r.waiting
+abbrev pub run_ended : Reading → ℤ → Reading
+run_ended r number = go r.waiting
   where
     finished : Levelled → Reading
-    finished x = withLists r (r.sections ++ (x ∷ [])) none []
+    finished x = with_lists r (r.sections ++ (x ∷ [])) none []
 
     go : Option Awaited → Reading
     go none =
-        cond (termsOf r.opening.class).double
-        (withLists r r.sections (some (record { number = number; outward = r.present })) [])
+        cond (terms_of r.opening.class).double
+        (with_lists r r.sections (some (record { number = number; outward = r.present })) [])
         (finished (record { number = number; outward = r.present; back = none }))
     go (some w) = finished (record { number = w.number; outward = w.outward; back = some r.present })
 
@@ -119,8 +119,8 @@ opened o =
       present = [];
     }
 
-abbrev pub withOpening : Reading → Opening → Reading
-withOpening r o =
+abbrev pub with_opening : Reading → Opening → Reading
+with_opening r o =
     record {
       stage = r.stage;
       opening = o;
@@ -130,8 +130,8 @@ withOpening r o =
       present = r.present;
     }
 
-abbrev pub closedOn : Reading → ℤ → Reading
-closedOn r end =
+abbrev pub closed_on : Reading → ℤ → Reading
+closed_on r end =
     record {
       stage = Closed;
       opening = r.opening;
@@ -142,29 +142,29 @@ closedOn r end =
     }
 
 abbrev pub taken : Reading → Call → Reading
-taken r (open-line order instrument number height) = opened (openingOf (class_of order) instrument number height)
-taken r (station kb kf readings) = withLists r r.sections r.waiting (r.present ++ (stationOf kb kf readings ∷ []))
-taken r (end-run number) = runEnded r number
-taken r drop-run = withLists r r.sections r.waiting []
-taken r drop-section = withLists r r.sections none []
-taken r (close-line number end) = closedOn r end
-taken r (open-spur order instrument number height) = opened (openingOf Spur instrument number height)
+taken r (open_line order instrument number height) = opened (opening_of (class_of order) instrument number height)
+taken r (station kb kf readings) = with_lists r r.sections r.waiting (r.present ++ (station_of kb kf readings ∷ []))
+taken r (end_run number) = run_ended r number
+taken r drop_run = with_lists r r.sections r.waiting []
+taken r drop_section = with_lists r r.sections none []
+taken r (close_line number end) = closed_on r end
+taken r (open_spur order instrument number height) = opened (opening_of Spur instrument number height)
 -- a spur has no end height: 0 stands for it
-taken r (close-spur number) = closedOn r (pos 0)
-taken r (collimation x) = withOpening r (collimated r.opening)
+taken r (close_spur number) = closed_on r (pos 0)
+taken r (collimation x) = with_opening r (collimated r.opening)
 
 -- ---- a list of calls
 
 abbrev pub refusal : Reading → Call → ℕ
-refusal r c = Rules.refusal (plainState r) c
+refusal r c = Rules.refusal (plain_state r) c
 
 -- a refused call changes nothing of what is kept
 abbrev pub next : Reading → Call → Reading
 next r c = cond (eqb (refusal r c) 0) (taken r c) r
 
 -- nothing is opened: what stands in the opening and the end height are placeholders, which decide nothing before a line is opened
-abbrev pub freshReading : Reading
-freshReading =
+abbrev pub fresh_reading : Reading
+fresh_reading =
     record {
       stage = Fresh;
       opening = record { class = Fourth; instrument = Ds3; start = record { number = pos 0; height = pos 0 }; staffs = Nominal; collimated = false };
@@ -183,12 +183,12 @@ refusals r [] = []
 refusals r (c ∷ cs) = refusal r c ∷ refusals (next r c) cs
 
 -- the figures of closing a reading's line on the end height that it keeps
-abbrev pub figuresOf : Reading → Closing
-figuresOf r = closing r.opening r.end (plainState r).sections
+abbrev pub figures_of : Reading → Closing
+figures_of r = closing r.opening r.end (plain_state r).sections
 
 -- what a call that is taken gives beside the book: a closing its figures, another call nothing
 abbrev pub given : Reading → Call → List Closing
-given r c = cond (isClosing c) (figuresOf (taken r c) ∷ []) []
+given r c = cond (is_closing c) (figures_of (taken r c) ∷ []) []
 
 -- what the closings taken in a list of calls gave, in order
 abbrev pub closings : Reading → List Call → List Closing

@@ -10,64 +10,64 @@ use Rattle.book.specs.declared.Step.{Step}
 use Rattle.book.specs.declared.Outcome.{Outcome}
 use Rattle.book.specs.declared.ClosedFigures.{ClosedFigures}
 use Rattle.book.specs.declared.CloseOutcome.{CloseOutcome}
-use Rattle.rules.specs.LineState.{state_of, bookWith}
-use Rattle.rules.specs.Rules.{Call, open-line, station, end-run, drop-run, drop-section, close-line, open-spur, close-spur, collimation, isClosing}
+use Rattle.rules.specs.LineState.{state_of, book_with}
+use Rattle.rules.specs.Rules.{Call, open_line, station, end_run, drop_run, drop_section, close_line, open_spur, close_spur, collimation, is_closing}
 use Rattle.rules.specs.Records.{call_of}
-use Rattle.book.specs.Calls.{freshBook, closeNumber, closeFigures, gaveOf}
-use Rattle.book.proofs.fresh.Reads as fresh-reads
-use Rattle.book.proofs.calls.«open».Reads as open-reads
-use Rattle.book.proofs.calls.station.Reads as station-reads
-use Rattle.book.proofs.calls.end_run.Reads as end-run-reads
-use Rattle.book.proofs.calls.drop_run.Reads as drop-run-reads
-use Rattle.book.proofs.calls.drop_section.Reads as drop-section-reads
-use Rattle.book.proofs.calls.close_line.Reads as close-line-reads
-use Rattle.book.proofs.calls.open_spur.Reads as open-spur-reads
-use Rattle.book.proofs.calls.close_spur.Reads as close-spur-reads
-use Rattle.book.proofs.calls.collimation.Reads as collimation-reads
-use Rattle.book.proofs.calls.figures_of.Reads as figures-of-reads
-use Rattle.book.proofs.calls.take.Reads as take-reads
-use Rattle.ledger.specs.Plain.{freshReading, after, refusals, closings, plainState}
-use Rattle.ledger.specs.Claims.{ClosedOnce, takenOnly}
+use Rattle.book.specs.Calls.{fresh_book, close_number, close_figures, gave_of}
+use Rattle.book.proofs.fresh.Reads as fresh_reads
+use Rattle.book.proofs.calls.«open».Reads as open_reads
+use Rattle.book.proofs.calls.station.Reads as station_reads
+use Rattle.book.proofs.calls.end_run.Reads as end_run_reads
+use Rattle.book.proofs.calls.drop_run.Reads as drop_run_reads
+use Rattle.book.proofs.calls.drop_section.Reads as drop_section_reads
+use Rattle.book.proofs.calls.close_line.Reads as close_line_reads
+use Rattle.book.proofs.calls.open_spur.Reads as open_spur_reads
+use Rattle.book.proofs.calls.close_spur.Reads as close_spur_reads
+use Rattle.book.proofs.calls.collimation.Reads as collimation_reads
+use Rattle.book.proofs.calls.figures_of.Reads as figures_of_reads
+use Rattle.book.proofs.calls.take.Reads as take_reads
+use Rattle.ledger.specs.Plain.{fresh_reading, after, refusals, closings, plain_state}
+use Rattle.ledger.specs.Claims.{ClosedOnce, taken_only}
 
 abbrev pub FreshEnsures : Book → Type 0
-FreshEnsures b = fresh-reads.Learnt tt tt b tt
+FreshEnsures b = fresh_reads.Learnt tt tt b tt
 
 -- of a call but closing, whose outcome is another
 abbrev pub Ensures : Book → Call → Outcome → Type 0
-Ensures b (open-line order instrument number height) r =
-    open-reads.Learnt tt (b, (order, (instrument, (number, (height, tt))))) r (b, (order, (instrument, (number, (height, tt)))))
-Ensures b (station kb kf readings) r = station-reads.Learnt tt (b, (kb, (kf, (readings, tt)))) r (b, (kb, (kf, (readings, tt))))
-Ensures b (end-run number) r = end-run-reads.Learnt tt (b, (number, tt)) r (b, (number, tt))
-Ensures b drop-run r = drop-run-reads.Learnt tt (b, tt) r (b, tt)
-Ensures b drop-section r = drop-section-reads.Learnt tt (b, tt) r (b, tt)
-Ensures b (close-line number end) r = ⊥
-Ensures b (open-spur order instrument number height) r =
-    open-spur-reads.Learnt tt (b, (order, (instrument, (number, (height, tt))))) r (b, (order, (instrument, (number, (height, tt)))))
-Ensures b (close-spur number) r = ⊥
-Ensures b (collimation x) r = collimation-reads.Learnt tt (b, (x, tt)) r (b, (x, tt))
+Ensures b (open_line order instrument number height) r =
+    open_reads.Learnt tt (b, (order, (instrument, (number, (height, tt))))) r (b, (order, (instrument, (number, (height, tt)))))
+Ensures b (station kb kf readings) r = station_reads.Learnt tt (b, (kb, (kf, (readings, tt)))) r (b, (kb, (kf, (readings, tt))))
+Ensures b (end_run number) r = end_run_reads.Learnt tt (b, (number, tt)) r (b, (number, tt))
+Ensures b drop_run r = drop_run_reads.Learnt tt (b, tt) r (b, tt)
+Ensures b drop_section r = drop_section_reads.Learnt tt (b, tt) r (b, tt)
+Ensures b (close_line number end) r = ⊥
+Ensures b (open_spur order instrument number height) r =
+    open_spur_reads.Learnt tt (b, (order, (instrument, (number, (height, tt))))) r (b, (order, (instrument, (number, (height, tt)))))
+Ensures b (close_spur number) r = ⊥
+Ensures b (collimation x) r = collimation_reads.Learnt tt (b, (x, tt)) r (b, (x, tt))
 
 -- and of a closing
 abbrev pub CloseEnsures : Book → Call → CloseOutcome → Type 0
-CloseEnsures b (open-line order instrument number height) r = ⊥
+CloseEnsures b (open_line order instrument number height) r = ⊥
 CloseEnsures b (station kb kf readings) r = ⊥
-CloseEnsures b (end-run number) r = ⊥
-CloseEnsures b drop-run r = ⊥
-CloseEnsures b drop-section r = ⊥
-CloseEnsures b (close-line number end) r = close-line-reads.Learnt tt (b, (number, (end, tt))) r (b, (number, (end, tt)))
-CloseEnsures b (open-spur order instrument number height) r = ⊥
-CloseEnsures b (close-spur number) r = close-spur-reads.Learnt tt (b, (number, tt)) r (b, (number, tt))
+CloseEnsures b (end_run number) r = ⊥
+CloseEnsures b drop_run r = ⊥
+CloseEnsures b drop_section r = ⊥
+CloseEnsures b (close_line number end) r = close_line_reads.Learnt tt (b, (number, (end, tt))) r (b, (number, (end, tt)))
+CloseEnsures b (open_spur order instrument number height) r = ⊥
+CloseEnsures b (close_spur number) r = close_spur_reads.Learnt tt (b, (number, tt)) r (b, (number, tt))
 CloseEnsures b (collimation x) r = ⊥
 
 abbrev pub FiguresEnsures : Book → ClosedFigures → Type 0
-FiguresEnsures b f = figures-of-reads.Learnt tt (b, tt) f (b, tt)
+FiguresEnsures b f = figures_of_reads.Learnt tt (b, tt) f (b, tt)
 
 -- of any call, by its record's tag and numbers
 abbrev pub TakeEnsures : Book → Tag → List ℤ → Step → Type 0
-TakeEnsures b tag v s = take-reads.Learnt tt (b, (tag, (v, tt))) s (b, (tag, (v, tt)))
+TakeEnsures b tag v s = take_reads.Learnt tt (b, (tag, (v, tt))) s (b, (tag, (v, tt)))
 
 -- a record that closes the line gives no figures: the book that it leaves does, where it was taken
-abbrev pub hadOf : Step → ClosedFigures → List Closing
-hadOf s f = cond (eqb s.number 0) (gaveOf f.answer f.points) []
+abbrev pub had_of : Step → ClosedFigures → List Closing
+had_of s f = cond (eqb s.number 0) (gave_of f.answer f.points) []
 
 -- the calls made of a book, the numbers that they answered, what its closings gave and the book that was left
 pub data Trace : Book → List Call → List ℕ → List Closing → Book → Type 0 where
@@ -75,27 +75,27 @@ pub data Trace : Book → List Call → List ℕ → List Closing → Book → T
   call : {b e : Book} {c : Call} {cs : List Call} {ns : List ℕ} {gs : List Closing} (r : Outcome) → Ensures b c r → Trace r.book cs ns gs e
       → Trace b (c ∷ cs) (number_of r.answer ∷ ns) gs e
   close : {b e : Book} {c : Call} {cs : List Call} {ns : List ℕ} {gs : List Closing} (r : CloseOutcome) → CloseEnsures b c r → Trace r.book cs ns gs e
-      → Trace b (c ∷ cs) (closeNumber r.answer ∷ ns) (gaveOf r.answer r.points ++ gs) e
-  took : {b e : Book} {cs : List Call} {ns : List ℕ} {gs : List Closing} (tag : Tag) (v : List ℤ) (s : Step) → isClosing (call_of tag v) ≡ false → TakeEnsures b tag v s
+      → Trace b (c ∷ cs) (close_number r.answer ∷ ns) (gave_of r.answer r.points ++ gs) e
+  took : {b e : Book} {cs : List Call} {ns : List ℕ} {gs : List Closing} (tag : Tag) (v : List ℤ) (s : Step) → is_closing (call_of tag v) ≡ false → TakeEnsures b tag v s
       → Trace s.book cs ns gs e → Trace b (call_of tag v ∷ cs) (s.number ∷ ns) gs e
-  took-closing : {b e : Book} {cs : List Call} {ns : List ℕ} {gs : List Closing} (tag : Tag) (v : List ℤ) (s : Step) (f : ClosedFigures) → isClosing (call_of tag v) ≡ true
-      → TakeEnsures b tag v s → FiguresEnsures s.book f → Trace s.book cs ns gs e → Trace b (call_of tag v ∷ cs) (s.number ∷ ns) (hadOf s f ++ gs) e
+  took_closing : {b e : Book} {cs : List Call} {ns : List ℕ} {gs : List Closing} (tag : Tag) (v : List ℤ) (s : Step) (f : ClosedFigures) → is_closing (call_of tag v) ≡ true
+      → TakeEnsures b tag v s → FiguresEnsures s.book f → Trace s.book cs ns gs e → Trace b (call_of tag v ∷ cs) (s.number ∷ ns) (had_of s f ++ gs) e
 
 -- ---- the claim about the whole list
 
 pub record SoundTrace (calls : List Call) (ns : List ℕ) (gs : List Closing) (e : Book) : Type 0 where
   -- the plain reading answers the same numbers, and its closings give the same
-  pub numbers : ns ≡ refusals freshReading calls
-  pub given : gs ≡ closings freshReading calls
+  pub numbers : ns ≡ refusals fresh_reading calls
+  pub given : gs ≡ closings fresh_reading calls
   -- the book holds the standing list's counts and sums, and nothing else
-  pub holds : state_of e ≡ plainState (after freshReading calls)
-  pub book : e ≡ bookWith freshBook (plainState (after freshReading calls))
+  pub holds : state_of e ≡ plain_state (after fresh_reading calls)
+  pub book : e ≡ book_with fresh_book (plain_state (after fresh_reading calls))
   -- no call found the book broken
-  pub never-20 : any_of (λ n. eqb n 20) ns ≡ false
+  pub never_20 : any_of (λ n. eqb n 20) ns ≡ false
   -- a line that the calls left closed was closed once and soundly
   pub closed : e.line.stage ≡ Closed → ClosedOnce calls gs
   -- and its figures can be had of the book again
-  pub again : (c : e.line.stage ≡ Closed) (x : ClosedFigures) → FiguresEnsures e x → x ≡ closeFigures 0 (closed c).gave
+  pub again : (c : e.line.stage ≡ Closed) (x : ClosedFigures) → FiguresEnsures e x → x ≡ close_figures 0 (closed c).gave
   -- a line that they did not leave closed gave no closing
   pub unclosed : (e.line.stage ≡ Closed → ⊥) → gs ≡ []
 
@@ -110,6 +110,6 @@ EveryListMade = ((b : Book) × FreshEnsures b) × ((b : Book) (calls : List Call
 abbrev pub StruckOutOfBook : Type 0
 StruckOutOfBook =
     (b c d e : Book) (calls : List Call) (ms ns : List ℕ) (fs gs : List Closing)
-    → FreshEnsures b → Trace b (takenOnly freshReading calls) ms fs d
+    → FreshEnsures b → Trace b (taken_only fresh_reading calls) ms fs d
     → FreshEnsures c → Trace c calls ns gs e
     → (any_of (λ n. not (eqb n 0)) ms ≡ false) × ((d ≡ e) × (fs ≡ gs))

@@ -1,17 +1,17 @@
 -- The starred lines of document 01, 'Checked by hand', as one fact that the rules compute; a spur, short sections and the collimation test (document 02, W-202, W-201 and W-204) as others.
 use Rattle.std.specs.Prelude.{◌≡◌, refl, List, [], ◌∷◌, ◌++◌, map, ℕ, ◌+◌, ◌-◌, ℤ, pos, neg_ℤ, ◌*ℤ◌}
-use Rattle.roots.specs.Round.{roundEven}
-use Rattle.roots.specs.Limit.{isWithin}
-use Rattle.collimation.specs.Collimation.{withinAngle}
+use Rattle.roots.specs.Round.{round_even}
+use Rattle.roots.specs.Limit.{is_within}
+use Rattle.collimation.specs.Collimation.{within_angle}
 use Rattle.station.specs.declared.Staffs.TheVariants.{Nominal}
-use Rattle.station.specs.Station.{Station, stationOf, sightDifference, faceDifference, twiceHeight}
+use Rattle.station.specs.Station.{Station, station_of, sight_difference, face_difference, twice_height}
 use Rattle.adjust.specs.declared.Section.{Section}
 use Rattle.adjust.specs.declared.Point.{Point}
 use Rattle.adjust.specs.declared.Frame.{Frame}
-use Rattle.adjust.specs.Line.{quarters, wholes, frame_of, exactTop, closure, Closing, accidental}
-use Rattle.rules.specs.LineState.{LineState, outwardOrReturn, bothWays}
-use Rattle.rules.specs.Rules.{Call, open-line, station, end-run, close-line, open-spur, close-spur, collimation}
-use Rattle.ledger.specs.Plain.{freshReading, after, refusals, plainState, run_of, closings}
+use Rattle.adjust.specs.Line.{quarters, wholes, frame_of, exact_top, closure, Closing, accidental}
+use Rattle.rules.specs.LineState.{LineState, outward_or_return, both_ways}
+use Rattle.rules.specs.Rules.{Call, open_line, station, end_run, close_line, open_spur, close_spur, collimation}
+use Rattle.ledger.specs.Plain.{fresh_reading, after, refusals, plain_state, run_of, closings}
 
 -- ---- the stations of case A
 
@@ -26,11 +26,11 @@ abbrev readings2 : List (List ℤ)
 readings2 = staff 1965 1700 1832 6519 ∷ staff 2141 1874 2007 6793 ∷ []
 
 -- back again over the same section, the last black and red readings open
-abbrev backReadings1 : List (List ℤ)
-backReadings1 = staff 2141 1874 2007 6694 ∷ staff 1965 1700 1832 6619 ∷ []
+abbrev back_readings1 : List (List ℤ)
+back_readings1 = staff 2141 1874 2007 6694 ∷ staff 1965 1700 1832 6619 ∷ []
 
-abbrev backReadings2 : ℕ → ℕ → List (List ℤ)
-backReadings2 black red = staff 739 363 551 5338 ∷ staff 1571 1197 black red ∷ []
+abbrev back_readings2 : ℕ → ℕ → List (List ℤ)
+back_readings2 black red = staff 739 363 551 5338 ∷ staff 1571 1197 black red ∷ []
 
 abbrev a1 : Call
 a1 = station (pos 4787) (pos 4687) readings1
@@ -46,7 +46,7 @@ a4 = station (pos 4687) (pos 4787) (staff 1500 1300 1400 6087 ∷ staff 1250 105
 
 -- fourth order, DS3, from benchmark 1
 abbrev open4 : ℕ → Call
-open4 height = open-line (pos 4) (pos 3) (pos 1) (pos height)
+open4 height = open_line (pos 4) (pos 3) (pos 1) (pos height)
 
 -- a level that is adjusted: the values of GB 12898-91, Table B7 (document 02, W-204)
 abbrev tested : Call
@@ -55,35 +55,35 @@ tested = collimation (pos 5937 ∷ pos 5951 ∷ pos 6043 ∷ pos 6067 ∷ pos 68
 -- ---- the starred lines
 
 abbrev s1 : Station
-s1 = stationOf (pos 4787) (pos 4687) readings1
+s1 = station_of (pos 4787) (pos 4687) readings1
 
 abbrev s2 : Station
-s2 = stationOf (pos 4687) (pos 4787) readings2
+s2 = station_of (pos 4687) (pos 4787) readings2
 
 -- A's section 1 alone, and A's section 2 twice, between two heights
 abbrev one : ℕ → ℕ → List Call
-one start end = open4 start ∷ tested ∷ a1 ∷ a2 ∷ end-run (pos 2) ∷ close-line (pos 2) (pos end) ∷ []
+one start end = open4 start ∷ tested ∷ a1 ∷ a2 ∷ end_run (pos 2) ∷ close_line (pos 2) (pos end) ∷ []
 
 abbrev two : ℕ → ℕ → List Call
-two start end = open4 start ∷ tested ∷ a3 ∷ a4 ∷ end-run (pos 2) ∷ a3 ∷ a4 ∷ end-run (pos 3) ∷ close-line (pos 3) (pos end) ∷ []
+two start end = open4 start ∷ tested ∷ a3 ∷ a4 ∷ end_run (pos 2) ∷ a3 ∷ a4 ∷ end_run (pos 3) ∷ close_line (pos 3) (pos end) ∷ []
 
 -- A's section 1 at third order, out and back, before its end and with it
-abbrev goneBack : ℕ → List Call
-goneBack red =
-    open-line (pos 3) (pos 3) (pos 1) (pos 10000) ∷ tested ∷ a1 ∷ a2 ∷ end-run (pos 2)
-    ∷ station (pos 4687) (pos 4787) backReadings1 ∷ station (pos 4787) (pos 4687) (backReadings2 1380 red) ∷ []
+abbrev gone_back : ℕ → List Call
+gone_back red =
+    open_line (pos 3) (pos 3) (pos 1) (pos 10000) ∷ tested ∷ a1 ∷ a2 ∷ end_run (pos 2)
+    ∷ station (pos 4687) (pos 4787) back_readings1 ∷ station (pos 4787) (pos 4687) (back_readings2 1380 red) ∷ []
 
-abbrev outAndBack : ℕ → List Call
-outAndBack red = goneBack red ++ (end-run (pos 1) ∷ [])
+abbrev out_and_back : ℕ → List Call
+out_and_back red = gone_back red ++ (end_run (pos 1) ∷ [])
 
 -- the section that the end of the return is judged by: of what waits and the present run
 abbrev returned : ℕ → List Section
 returned red =
-    let v : LineState = plainState (after freshReading (goneBack red)) in
-    outwardOrReturn v.line.waiting [] (λ number run. bothWays number run v.line.present ∷ [])
+    let v : LineState = plain_state (after fresh_reading (gone_back red)) in
+    outward_or_return v.line.waiting [] (λ number run. both_ways number run v.line.present ∷ [])
 
-abbrev twoFrame : ℕ → ℕ → Frame
-twoFrame start end = frame_of quarters wholes (pos start) (pos end) (plainState (after freshReading (two start end))).sections
+abbrev two_frame : ℕ → ℕ → Frame
+two_frame start end = frame_of quarters wholes (pos start) (pos end) (plain_state (after fresh_reading (two start end))).sections
 
 abbrev section : ℕ → ℕ → ℕ → ℕ → Section
 section n q r d = record { number = pos n; height = pos q; distance = pos r; discrepancy = pos d }
@@ -96,74 +96,74 @@ heights cs = map (λ (c : Closing). map (λ (p : Point). p.height) c.points) cs
 
 pub record Starred : Type 0 where
   -- A's first station
-  pub first-d : sightDifference s1 ≡ neg_ℤ (pos 2)
-  pub first-back-e : faceDifference Nominal s1.back ≡ pos 0
-  pub first-fore-e : faceDifference Nominal s1.fore ≡ neg_ℤ (pos 1)
-  pub first-height : twiceHeight Nominal s1 ≡ pos 1665
+  pub first_d : sight_difference s1 ≡ neg_ℤ (pos 2)
+  pub first_back_e : face_difference Nominal s1.back ≡ pos 0
+  pub first_fore_e : face_difference Nominal s1.fore ≡ neg_ℤ (pos 1)
+  pub first_height : twice_height Nominal s1 ≡ pos 1665
   -- its second
-  pub second-back-e : faceDifference Nominal s2.back ≡ pos 0
-  pub second-fore-e : faceDifference Nominal s2.fore ≡ pos 1
-  pub second-height : twiceHeight Nominal s2 ≡ neg_ℤ (pos 349)
+  pub second_back_e : face_difference Nominal s2.back ≡ pos 0
+  pub second_fore_e : face_difference Nominal s2.fore ≡ pos 1
+  pub second_height : twice_height Nominal s2 ≡ neg_ℤ (pos 349)
   pub accumulated : (run_of Nominal (s1 ∷ s2 ∷ [])).difference ≡ neg_ℤ (pos 4)
   -- A's section 1, and that section alone from 10000
-  pub section-1 : (plainState (after freshReading (one 10000 10651))).sections ≡ section 2 2632 2564 0 ∷ []
-  pub w28 : closures (closings freshReading (one 10000 10651)) ≡ pos 28 ∷ []
-  pub w28-taken : refusals freshReading (one 10000 10651) ≡ 0 ∷ 0 ∷ 0 ∷ 0 ∷ 0 ∷ 0 ∷ []
-  pub w32 : closure quarters (pos 10000) (pos 10650) (plainState (after freshReading (one 10000 10650))).sections ≡ pos 32
-  pub w32-refused : refusals freshReading (one 10000 10650) ≡ 0 ∷ 0 ∷ 0 ∷ 0 ∷ 0 ∷ 36 ∷ []
+  pub section_1 : (plain_state (after fresh_reading (one 10000 10651))).sections ≡ section 2 2632 2564 0 ∷ []
+  pub w28 : closures (closings fresh_reading (one 10000 10651)) ≡ pos 28 ∷ []
+  pub w28_taken : refusals fresh_reading (one 10000 10651) ≡ 0 ∷ 0 ∷ 0 ∷ 0 ∷ 0 ∷ 0 ∷ []
+  pub w32 : closure quarters (pos 10000) (pos 10650) (plain_state (after fresh_reading (one 10000 10650))).sections ≡ pos 32
+  pub w32_refused : refusals fresh_reading (one 10000 10650) ≡ 0 ∷ 0 ∷ 0 ∷ 0 ∷ 0 ∷ 36 ∷ []
   -- R 2564: the end of a return with D 8 is taken, with D 9 refused
   pub d8 : returned 6067 ≡ section 2 2624 2564 8 ∷ []
-  pub d8-taken : refusals freshReading (outAndBack 6067) ≡ 0 ∷ 0 ∷ 0 ∷ 0 ∷ 0 ∷ 0 ∷ 0 ∷ 0 ∷ []
+  pub d8_taken : refusals fresh_reading (out_and_back 6067) ≡ 0 ∷ 0 ∷ 0 ∷ 0 ∷ 0 ∷ 0 ∷ 0 ∷ 0 ∷ []
   pub d9 : returned 6066 ≡ section 2 2623 2564 9 ∷ []
-  pub d9-refused : refusals freshReading (outAndBack 6066) ≡ 0 ∷ 0 ∷ 0 ∷ 0 ∷ 0 ∷ 0 ∷ 0 ∷ 32 ∷ []
+  pub d9_refused : refusals fresh_reading (out_and_back 6066) ≡ 0 ∷ 0 ∷ 0 ∷ 0 ∷ 0 ∷ 0 ∷ 0 ∷ 32 ∷ []
   pub t : accidental 1 (section 2 0 20000 24) ≡ pos 14400
   -- A's section 2 twice: the middle is 21099 / 2 and 21101 / 2, at Q 2200 and R 1600
-  pub section-2 : (plainState (after freshReading (two 10000 11099))).sections ≡ section 2 2200 1600 0 ∷ section 3 2200 1600 0 ∷ []
-  pub tie-1-w : closures (closings freshReading (two 10000 11099)) ≡ pos 4 ∷ []
-  pub tie-1-exact : pos 2 *ℤ exactTop (twoFrame 10000 11099) (pos 2200) (pos 1600)
-      ≡ pos 21099 *ℤ ((twoFrame 10000 11099).units *ℤ (twoFrame 10000 11099).total)
-  pub tie-1 : heights (closings freshReading (two 10000 11099)) ≡ (pos 10000 ∷ pos 10550 ∷ pos 11099 ∷ []) ∷ []
-  pub tie-2-exact : pos 2 *ℤ exactTop (twoFrame 10001 11100) (pos 2200) (pos 1600)
-      ≡ pos 21101 *ℤ ((twoFrame 10001 11100).units *ℤ (twoFrame 10001 11100).total)
-  pub tie-2 : heights (closings freshReading (two 10001 11100)) ≡ (pos 10001 ∷ pos 10550 ∷ pos 11100 ∷ []) ∷ []
+  pub section_2 : (plain_state (after fresh_reading (two 10000 11099))).sections ≡ section 2 2200 1600 0 ∷ section 3 2200 1600 0 ∷ []
+  pub tie_1_w : closures (closings fresh_reading (two 10000 11099)) ≡ pos 4 ∷ []
+  pub tie_1_exact : pos 2 *ℤ exact_top (two_frame 10000 11099) (pos 2200) (pos 1600)
+      ≡ pos 21099 *ℤ ((two_frame 10000 11099).units *ℤ (two_frame 10000 11099).total)
+  pub tie_1 : heights (closings fresh_reading (two 10000 11099)) ≡ (pos 10000 ∷ pos 10550 ∷ pos 11099 ∷ []) ∷ []
+  pub tie_2_exact : pos 2 *ℤ exact_top (two_frame 10001 11100) (pos 2200) (pos 1600)
+      ≡ pos 21101 *ℤ ((two_frame 10001 11100).units *ℤ (two_frame 10001 11100).total)
+  pub tie_2 : heights (closings fresh_reading (two 10001 11100)) ≡ (pos 10001 ∷ pos 10550 ∷ pos 11100 ∷ []) ∷ []
 
 pub starred : Starred
-unfolding roundEven isWithin withinAngle
+unfolding round_even is_within within_angle
 starred =
     record {
-      first-d = refl;
-      first-back-e = refl;
-      first-fore-e = refl;
-      first-height = refl;
-      second-back-e = refl;
-      second-fore-e = refl;
-      second-height = refl;
+      first_d = refl;
+      first_back_e = refl;
+      first_fore_e = refl;
+      first_height = refl;
+      second_back_e = refl;
+      second_fore_e = refl;
+      second_height = refl;
       accumulated = refl;
-      section-1 = refl;
+      section_1 = refl;
       w28 = refl;
-      w28-taken = refl;
+      w28_taken = refl;
       w32 = refl;
-      w32-refused = refl;
+      w32_refused = refl;
       d8 = refl;
-      d8-taken = refl;
+      d8_taken = refl;
       d9 = refl;
-      d9-refused = refl;
+      d9_refused = refl;
       t = refl;
-      section-2 = refl;
-      tie-1-w = refl;
-      tie-1-exact = refl;
-      tie-1 = refl;
-      tie-2-exact = refl;
-      tie-2 = refl;
+      section_2 = refl;
+      tie_1_w = refl;
+      tie_1_exact = refl;
+      tie_1 = refl;
+      tie_2_exact = refl;
+      tie_2 = refl;
     }
 
 -- ---- a spur
 
 -- fourth order, DS3, from benchmark 1: A's section 1 out and back
-abbrev spurOutAndBack : ℕ → ℕ → List Call
-spurOutAndBack black red =
-    open-spur (pos 4) (pos 3) (pos 1) (pos 10000) ∷ tested ∷ a1 ∷ a2 ∷ end-run (pos 2)
-    ∷ station (pos 4687) (pos 4787) backReadings1 ∷ station (pos 4787) (pos 4687) (backReadings2 black red) ∷ end-run (pos 1) ∷ []
+abbrev spur_out_and_back : ℕ → ℕ → List Call
+spur_out_and_back black red =
+    open_spur (pos 4) (pos 3) (pos 1) (pos 10000) ∷ tested ∷ a1 ∷ a2 ∷ end_run (pos 2)
+    ∷ station (pos 4687) (pos 4787) back_readings1 ∷ station (pos 4787) (pos 4687) (back_readings2 black red) ∷ end_run (pos 1) ∷ []
 
 -- number and height of each point, and the corrections
 abbrev marks : List Closing → List (List (ℤ × ℤ))
@@ -174,37 +174,37 @@ corrected cs = map (λ (c : Closing). map (λ (p : Point). p.correction) c.point
 
 -- R 2564: a return with D 14 is taken, with D 15 refused. FIN closes it, END does not; a height of 10654.5 is printed as the even 10654
 pub record SpurWorked : Type 0 where
-  pub d14 : (plainState (after freshReading (spurOutAndBack 1377 6064))).sections ≡ section 2 2618 2564 14 ∷ []
-  pub d14-taken : refusals freshReading (spurOutAndBack 1377 6064) ≡ 0 ∷ 0 ∷ 0 ∷ 0 ∷ 0 ∷ 0 ∷ 0 ∷ 0 ∷ []
-  pub d15-refused : refusals freshReading (spurOutAndBack 1377 6063) ≡ 0 ∷ 0 ∷ 0 ∷ 0 ∷ 0 ∷ 0 ∷ 0 ∷ 32 ∷ []
-  pub by_end : refusals (after freshReading (spurOutAndBack 1377 6064)) (close-line (pos 2) (pos 10655) ∷ close-line (pos 0) (pos 0) ∷ close-spur (pos 1) ∷ close-spur (pos 2) ∷ close-spur (pos 2) ∷ [])
+  pub d14 : (plain_state (after fresh_reading (spur_out_and_back 1377 6064))).sections ≡ section 2 2618 2564 14 ∷ []
+  pub d14_taken : refusals fresh_reading (spur_out_and_back 1377 6064) ≡ 0 ∷ 0 ∷ 0 ∷ 0 ∷ 0 ∷ 0 ∷ 0 ∷ 0 ∷ []
+  pub d15_refused : refusals fresh_reading (spur_out_and_back 1377 6063) ≡ 0 ∷ 0 ∷ 0 ∷ 0 ∷ 0 ∷ 0 ∷ 0 ∷ 32 ∷ []
+  pub by_end : refusals (after fresh_reading (spur_out_and_back 1377 6064)) (close_line (pos 2) (pos 10655) ∷ close_line (pos 0) (pos 0) ∷ close_spur (pos 1) ∷ close_spur (pos 2) ∷ close_spur (pos 2) ∷ [])
       ≡ 41 ∷ 4 ∷ 34 ∷ 0 ∷ 21 ∷ []
-  pub no-closure : closures (closings freshReading (spurOutAndBack 1377 6064 ++ (close-spur (pos 2) ∷ []))) ≡ pos 0 ∷ []
-  pub heights-even : marks (closings freshReading (spurOutAndBack 1377 6064 ++ (close-spur (pos 2) ∷ []))) ≡ ((pos 1, pos 10000) ∷ (pos 2, pos 10654) ∷ []) ∷ []
-  pub corrections-left : corrected (closings freshReading (spurOutAndBack 1377 6064 ++ (close-spur (pos 2) ∷ []))) ≡ (pos 0 ∷ neg_ℤ (pos 2) ∷ []) ∷ []
-  pub t : map (λ (c : Closing). c.summary.accidental) (closings freshReading (spurOutAndBack 1377 6064 ++ (close-spur (pos 2) ∷ []))) ≡ pos 38222 ∷ []
+  pub no_closure : closures (closings fresh_reading (spur_out_and_back 1377 6064 ++ (close_spur (pos 2) ∷ []))) ≡ pos 0 ∷ []
+  pub heights_even : marks (closings fresh_reading (spur_out_and_back 1377 6064 ++ (close_spur (pos 2) ∷ []))) ≡ ((pos 1, pos 10000) ∷ (pos 2, pos 10654) ∷ []) ∷ []
+  pub corrections_left : corrected (closings fresh_reading (spur_out_and_back 1377 6064 ++ (close_spur (pos 2) ∷ []))) ≡ (pos 0 ∷ neg_ℤ (pos 2) ∷ []) ∷ []
+  pub t : map (λ (c : Closing). c.summary.accidental) (closings fresh_reading (spur_out_and_back 1377 6064 ++ (close_spur (pos 2) ∷ []))) ≡ pos 38222 ∷ []
   -- its second section may not end on the start number, as a line's may; FIN does not close a line that is no spur, nor a fresh book; a spur is of fourth order
-  pub no_loop : refusals (after freshReading (spurOutAndBack 1377 6064)) (a1 ∷ a2 ∷ end-run (pos 1) ∷ end-run (pos 3) ∷ []) ≡ 0 ∷ 0 ∷ 30 ∷ 0 ∷ []
-  pub loop : refusals (after freshReading (outAndBack 6067)) (a1 ∷ a2 ∷ end-run (pos 1) ∷ []) ≡ 0 ∷ 0 ∷ 0 ∷ []
-  pub fin-on-line : refusals freshReading (close-spur (pos 2) ∷ open4 10000 ∷ tested ∷ a1 ∷ a2 ∷ end-run (pos 2) ∷ close-spur (pos 2) ∷ []) ≡ 21 ∷ 0 ∷ 0 ∷ 0 ∷ 0 ∷ 0 ∷ 41 ∷ []
-  pub order-3 : refusals freshReading (open-spur (pos 3) (pos 3) (pos 1) (pos 10000) ∷ []) ≡ 3 ∷ []
+  pub no_loop : refusals (after fresh_reading (spur_out_and_back 1377 6064)) (a1 ∷ a2 ∷ end_run (pos 1) ∷ end_run (pos 3) ∷ []) ≡ 0 ∷ 0 ∷ 30 ∷ 0 ∷ []
+  pub loop : refusals (after fresh_reading (out_and_back 6067)) (a1 ∷ a2 ∷ end_run (pos 1) ∷ []) ≡ 0 ∷ 0 ∷ 0 ∷ []
+  pub fin_on_line : refusals fresh_reading (close_spur (pos 2) ∷ open4 10000 ∷ tested ∷ a1 ∷ a2 ∷ end_run (pos 2) ∷ close_spur (pos 2) ∷ []) ≡ 21 ∷ 0 ∷ 0 ∷ 0 ∷ 0 ∷ 0 ∷ 41 ∷ []
+  pub order_3 : refusals fresh_reading (open_spur (pos 3) (pos 3) (pos 1) (pos 10000) ∷ []) ≡ 3 ∷ []
 
-pub spur-worked : SpurWorked
-unfolding roundEven isWithin withinAngle
-spur-worked =
+pub spur_worked : SpurWorked
+unfolding round_even is_within within_angle
+spur_worked =
     record {
       d14 = refl;
-      d14-taken = refl;
-      d15-refused = refl;
+      d14_taken = refl;
+      d15_refused = refl;
       by_end = refl;
-      no-closure = refl;
-      heights-even = refl;
-      corrections-left = refl;
+      no_closure = refl;
+      heights_even = refl;
+      corrections_left = refl;
       t = refl;
       no_loop = refl;
       loop = refl;
-      fin-on-line = refl;
-      order-3 = refl;
+      fin_on_line = refl;
+      order_3 = refl;
     }
 
 -- ---- short sections
@@ -219,15 +219,15 @@ level kb kf s = station (pos kb) (pos kf) (sighted kb s 0 0 ∷ sighted kf s 0 0
 -- what the calls of a level section out and back answer: sights of s, the last one of t, whose staff is read lower. R is 7 s + t, D is h + g
 abbrev short : Call → ℕ → ℕ → ℕ → ℕ → List ℕ
 short opening s t h g =
-    refusals freshReading
-    (opening ∷ tested ∷ level 4787 4687 s ∷ level 4687 4787 s ∷ end-run (pos 2)
-    ∷ level 4687 4787 s ∷ station (pos 4787) (pos 4687) (sighted 4787 s 0 0 ∷ sighted 4687 t h g ∷ []) ∷ end-run (pos 1) ∷ [])
+    refusals fresh_reading
+    (opening ∷ tested ∷ level 4787 4687 s ∷ level 4687 4787 s ∷ end_run (pos 2)
+    ∷ level 4687 4787 s ∷ station (pos 4787) (pos 4687) (sighted 4787 s 0 0 ∷ sighted 4687 t h g ∷ []) ∷ end_run (pos 1) ∷ [])
 
 abbrev third : Call
-third = open-line (pos 3) (pos 3) (pos 1) (pos 10000)
+third = open_line (pos 3) (pos 3) (pos 1) (pos 10000)
 
 abbrev spur : Call
-spur = open-spur (pos 4) (pos 3) (pos 1) (pos 10000)
+spur = open_spur (pos 4) (pos 3) (pos 1) (pos 10000)
 
 -- the end of the return is answered with n, all before it is taken
 abbrev ends : ℕ → List ℕ
@@ -235,26 +235,26 @@ ends n = 0 ∷ 0 ∷ 0 ∷ 0 ∷ 0 ∷ 0 ∷ 0 ∷ n ∷ []
 
 -- R 16, 1999 and 2000 have one limit of D: 7 at third order, 12 on a spur
 pub record ShortWorked : Type 0 where
-  pub third-16 : (short third 2 2 4 3 ≡ ends 0) × (short third 2 2 4 4 ≡ ends 32)
-  pub third-1999 : (short third 250 249 4 3 ≡ ends 0) × (short third 250 249 4 4 ≡ ends 32)
-  pub third-2000 : (short third 250 250 4 3 ≡ ends 0) × (short third 250 250 4 4 ≡ ends 32)
-  pub spur-16 : (short spur 2 2 6 6 ≡ ends 0) × (short spur 2 2 7 6 ≡ ends 32)
-  pub spur-1999 : (short spur 250 249 6 6 ≡ ends 0) × (short spur 250 249 7 6 ≡ ends 32)
-  pub spur-2000 : (short spur 250 250 6 6 ≡ ends 0) × (short spur 250 250 7 6 ≡ ends 32)
+  pub third_16 : (short third 2 2 4 3 ≡ ends 0) × (short third 2 2 4 4 ≡ ends 32)
+  pub third_1999 : (short third 250 249 4 3 ≡ ends 0) × (short third 250 249 4 4 ≡ ends 32)
+  pub third_2000 : (short third 250 250 4 3 ≡ ends 0) × (short third 250 250 4 4 ≡ ends 32)
+  pub spur_16 : (short spur 2 2 6 6 ≡ ends 0) × (short spur 2 2 7 6 ≡ ends 32)
+  pub spur_1999 : (short spur 250 249 6 6 ≡ ends 0) × (short spur 250 249 7 6 ≡ ends 32)
+  pub spur_2000 : (short spur 250 250 6 6 ≡ ends 0) × (short spur 250 250 7 6 ≡ ends 32)
   -- t keeps R itself
-  pub t-16 : (accidental 1 (section 2 0 16 7) ≡ pos 1531250) × (accidental 1 (section 2 0 16 12) ≡ pos 4500000)
+  pub t_16 : (accidental 1 (section 2 0 16 7) ≡ pos 1531250) × (accidental 1 (section 2 0 16 12) ≡ pos 4500000)
 
-pub short-worked : ShortWorked
-unfolding roundEven isWithin withinAngle
-short-worked =
+pub short_worked : ShortWorked
+unfolding round_even is_within within_angle
+short_worked =
     record {
-      third-16 = (refl, refl);
-      third-1999 = (refl, refl);
-      third-2000 = (refl, refl);
-      spur-16 = (refl, refl);
-      spur-1999 = (refl, refl);
-      spur-2000 = (refl, refl);
-      t-16 = (refl, refl);
+      third_16 = (refl, refl);
+      third_1999 = (refl, refl);
+      third_2000 = (refl, refl);
+      spur_16 = (refl, refl);
+      spur_1999 = (refl, refl);
+      spur_2000 = (refl, refl);
+      t_16 = (refl, refl);
     }
 
 -- ---- the collimation test
@@ -264,7 +264,7 @@ abbrev untrue : Call
 untrue = collimation (pos 5937 ∷ pos 5951 ∷ pos 6080 ∷ pos 6067 ∷ pos 6800 ∷ pos 40300 ∷ [])
 
 -- no station before one is taken; one above 20'' is refused and may be tried again; a second one is not taken, nor one on a fresh book, nor values out of range
-pub tested-first : refusals freshReading (tested ∷ open4 10000 ∷ a1 ∷ untrue ∷ a1 ∷ collimation [] ∷ tested ∷ a1 ∷ tested ∷ [])
+pub tested_first : refusals fresh_reading (tested ∷ open4 10000 ∷ a1 ∷ untrue ∷ a1 ∷ collimation [] ∷ tested ∷ a1 ∷ tested ∷ [])
     ≡ 21 ∷ 0 ∷ 46 ∷ 45 ∷ 46 ∷ 44 ∷ 0 ∷ 0 ∷ 45 ∷ []
-unfolding withinAngle
-tested-first = refl
+unfolding within_angle
+tested_first = refl

@@ -23,6 +23,6 @@ module _ {A : Type 0} (p : A → Bool) where
   all_append (x ∷ xs) ys f g = all_cons x (xs ++ ys) (all_head x xs f) (all_append xs ys (all_tail x xs f) g)
 
 -- what follows from a test, element by element
-pub all-weaken : {A : Type 0} (p q : A → Bool) → ((x : A) → p x ≡ true → q x ≡ true) → (xs : List A) → All p xs → All q xs
-all-weaken p q f [] e = refl
-all-weaken p q f (x ∷ xs) e = all_cons q x xs (f x (all_head p x xs e)) (all-weaken p q f xs (all_tail p x xs e))
+pub all_weaken : {A : Type 0} (p q : A → Bool) → ((x : A) → p x ≡ true → q x ≡ true) → (xs : List A) → All p xs → All q xs
+all_weaken p q f [] e = refl
+all_weaken p q f (x ∷ xs) e = all_cons q x xs (f x (all_head p x xs e)) (all_weaken p q f xs (all_tail p x xs e))

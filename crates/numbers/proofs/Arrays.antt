@@ -10,134 +10,134 @@ use lib.Seq.{length-take-le, take_all, take_at, drop_at, take-append-le, drop-ap
 use Rattle.numbers.specs.Numbers.{over, put_at, written}
 
 module _ {A : Type 0} where
-  pub drop-next : (l : List A) (i : ℕ) (z : A) → i < length l → drop i l ≡ get_or l i z ∷ drop (i + 1) l
-  drop-next l i z h = rw add-one (drop-cons l i z h)
+  pub drop_next : (l : List A) (i : ℕ) (z : A) → i < length l → drop i l ≡ get_or l i z ∷ drop (i + 1) l
+  drop_next l i z h = rw add-one (drop-cons l i z h)
 
   -- ---- in the first places
 
-  over-append : (s t r : List A) → over (s ++ t) r ≡ s ++ over t (drop (length s) r)
-  over-append s t r = rw (append_assoc s t, length-append s t, drop-drop (length t) (length s) r)
+  over_append : (s t r : List A) → over (s ++ t) r ≡ s ++ over t (drop (length s) r)
+  over_append s t r = rw (append_assoc s t, length-append s t, drop-drop (length t) (length s) r)
 
   -- a longer list covers a shorter one
-  pub over-again : (xs ys zs : List A) → length xs ≤ length ys → over ys (over xs zs) ≡ over ys zs
-  over-again xs ys zs h =
+  pub over_again : (xs ys zs : List A) → length xs ≤ length ys → over ys (over xs zs) ≡ over ys zs
+  over_again xs ys zs h =
       let m = length ys - length xs in
       let e : length ys ≡ length xs + m = omega arith in
       ap (λ (l : List A). ys ++ l)
       (ap (λ (n : ℕ). drop n (over xs zs)) e ∙ drop-append-add xs (drop (length xs) zs) m ∙ drop-drop m (length xs) zs ∙ ap (λ (n : ℕ). drop n zs) (sym e))
 
   -- one element more
-  pub over-next : (xs ys : List A) (x : A) → length xs < length ys → set (over xs ys) (length xs) x ≡ over (xs ++ (x ∷ [])) ys
-  over-next xs [] x h = absurd (omega arith)
-  over-next [] (y ∷ ys) x h = refl
-  over-next (z ∷ xs) (y ∷ ys) x h = ap (λ (l : List A). z ∷ l) (over-next xs ys x (omega arith))
+  pub over_next : (xs ys : List A) (x : A) → length xs < length ys → set (over xs ys) (length xs) x ≡ over (xs ++ (x ∷ [])) ys
+  over_next xs [] x h = absurd (omega arith)
+  over_next [] (y ∷ ys) x h = refl
+  over_next (z ∷ xs) (y ∷ ys) x h = ap (λ (l : List A). z ∷ l) (over_next xs ys x (omega arith))
 
   -- a list as long as the array is the array
-  pub over-full : (xs ys : List A) → length xs ≡ length ys → over xs ys ≡ xs
-  over-full xs ys e = ap (λ (l : List A). xs ++ l) (drop_of_length-le ys {i = length xs} (omega arith)) ∙ append-nil xs
+  pub over_full : (xs ys : List A) → length xs ≡ length ys → over xs ys ≡ xs
+  over_full xs ys e = ap (λ (l : List A). xs ++ l) (drop_of_length-le ys {i = length xs} (omega arith)) ∙ append-nil xs
 
   -- ---- from an index on
 
-  pub length-putAt : (d : List A) (at : ℕ) (s : List A) → at + length s ≤ length d → length (put_at d at s) ≡ length d
+  pub length_put_at : (d : List A) (at : ℕ) (s : List A) → at + length s ≤ length d → length (put_at d at s) ≡ length d
   unfolding put_at
-  length-putAt d at s h =
+  length_put_at d at s h =
       let l : length (take at d) ≡ at = length-take-le at d (omega arith) in
       simp (length-append, l, length-drop) (omega arith)
 
-  pub put-none : (d : List A) (at : ℕ) → put_at d at [] ≡ d
+  pub put_none : (d : List A) (at : ℕ) → put_at d at [] ≡ d
   unfolding put_at
-  put-none d at = take-append-drop at d
+  put_none d at = take-append-drop at d
 
   -- a list right after a list
-  pub put-after : (d : List A) (at : ℕ) (s t : List A) → at ≤ length d → put_at (put_at d at s) (at + length s) t ≡ put_at d at (s ++ t)
+  pub put_after : (d : List A) (at : ℕ) (s t : List A) → at ≤ length d → put_at (put_at d at s) (at + length s) t ≡ put_at d at (s ++ t)
   unfolding put_at
-  put-after d at s t h =
+  put_after d at s t h =
       let r = drop (length s) (drop at d) in
       let l : length (take at d ++ s) ≡ at + length s = length-append (take at d) s ∙ ap (λ (k : ℕ). k + length s) (length-take-le at d h) in
       ap (λ (x : List A). take (at + length s) x ++ over t (drop (at + length s) x)) (sym (append_assoc (take at d) s r))
-      ∙ rw (take_at (take at d ++ s) r (at + length s) l, drop_at (take at d ++ s) r (at + length s) l, append_assoc (take at d) s, over-append s t (drop at d))
+      ∙ rw (take_at (take at d ++ s) r (at + length s) l, drop_at (take at d ++ s) r (at + length s) l, append_assoc (take at d) s, over_append s t (drop at d))
 
   -- a list right before a list
-  pub put-before : (d : List A) (at : ℕ) (s t : List A) → at + length s ≤ length d → put_at (put_at d (at + length s) t) at s ≡ put_at d at (s ++ t)
+  pub put_before : (d : List A) (at : ℕ) (s t : List A) → at + length s ≤ length d → put_at (put_at d (at + length s) t) at s ≡ put_at d at (s ++ t)
   unfolding put_at
-  put-before d at s t h =
+  put_before d at s t h =
       let m = at + length s in
       let l : length (take m d) ≡ m = length-take-le m d h in
       let y = over t (drop m d) in
       let a : at ≤ length (take m d) = omega arith in
       let b : at ≤ m = omega arith in
-      rw (take-append-le at (take m d) y a, take-take at m d b, drop-drop (length s) at (take m d ++ y), drop_at (take m d) y m l, over-append s t (drop at d), drop-drop (length s) at d)
+      rw (take-append-le at (take m d) y a, take-take at m d b, drop-drop (length s) at (take m d ++ y), drop_at (take m d) y m l, over_append s t (drop at d), drop-drop (length s) at d)
 
   -- a store is a list of one
-  pub set-put : (d : List A) (i : ℕ) (x : A) → i < length d → set d i x ≡ put_at d i (x ∷ [])
+  pub set_put : (d : List A) (i : ℕ) (x : A) → i < length d → set d i x ≡ put_at d i (x ∷ [])
   unfolding put_at
-  set-put d i x h = set_split d i x h ∙ sym (rw (drop-drop 1 i d, add-one i))
+  set_put d i x h = set_split d i x h ∙ sym (rw (drop-drop 1 i d, add-one i))
 
   -- a store right before a list
-  pub put-head : (d : List A) (i r : ℕ) (x : A) (s : List A) → i + 1 ≡ r → r + length s ≤ length d → set (put_at d r s) i x ≡ put_at d i (x ∷ s)
-  put-head d i r x s e h =
-      let l : length (put_at d r s) ≡ length d = length-putAt d r s h in
-      set-put (put_at d r s) i x (omega arith)
+  pub put_head : (d : List A) (i r : ℕ) (x : A) (s : List A) → i + 1 ≡ r → r + length s ≤ length d → set (put_at d r s) i x ≡ put_at d i (x ∷ s)
+  put_head d i r x s e h =
+      let l : length (put_at d r s) ≡ length d = length_put_at d r s h in
+      set_put (put_at d r s) i x (omega arith)
       ∙ ap (λ (k : ℕ). put_at (put_at d k s) i (x ∷ [])) (sym e)
-      ∙ put-before d i (x ∷ []) s (omega arith)
+      ∙ put_before d i (x ∷ []) s (omega arith)
 
   -- ---- what is left to write
 
   -- a store, and then what follows it
-  pub put-cons : (d : List A) (at : ℕ) (x : A) (t : List A) → at < length d → put_at (set d at x) (at + 1) t ≡ put_at d at (x ∷ t)
-  put-cons d at x t h = ap (λ (e : List A). put_at e (at + 1) t) (set-put d at x h) ∙ put-after d at (x ∷ []) t (omega arith)
+  pub put_cons : (d : List A) (at : ℕ) (x : A) (t : List A) → at < length d → put_at (set d at x) (at + 1) t ≡ put_at d at (x ∷ t)
+  put_cons d at x t h = ap (λ (e : List A). put_at e (at + 1) t) (set_put d at x h) ∙ put_after d at (x ∷ []) t (omega arith)
 
   -- stores one after the other, and then what follows them
-  pub put-stores : (d : List A) (at : ℕ) (s t : List A) → at + length s ≤ length d → put_at (sets d at s) (at + length s) t ≡ put_at d at (s ++ t)
+  pub put_stores : (d : List A) (at : ℕ) (s t : List A) → at + length s ≤ length d → put_at (sets d at s) (at + length s) t ≡ put_at d at (s ++ t)
   unfolding put_at
-  put-stores d at s t h =
+  put_stores d at s t h =
       let stored : sets d at s ≡ put_at d at s =
       sets-eq s d at h ∙ append_assoc (take at d) s (drop (at + length s) d) ∙ ap (λ (r : List A). take at d ++ (s ++ r)) (sym (drop-drop (length s) at d)) in
-      ap (λ (e : List A). put_at e (at + length s) t) stored ∙ put-after d at s t (omega arith)
+      ap (λ (e : List A). put_at e (at + length s) t) stored ∙ put_after d at s t (omega arith)
 
   -- a store, and then what stands before it
-  pub put-snoc : (d : List A) (at : ℕ) (s : List A) (i : ℕ) (x : A) → at + length s ≡ i → i < length d → put_at (set d i x) at s ≡ put_at d at (s ++ (x ∷ []))
-  put-snoc d at s i x e h =
-      ap (λ (l : List A). put_at l at s) (set-put d i x h ∙ ap (λ (k : ℕ). put_at d k (x ∷ [])) (sym e))
-      ∙ put-before d at s (x ∷ []) (omega arith)
+  pub put_snoc : (d : List A) (at : ℕ) (s : List A) (i : ℕ) (x : A) → at + length s ≡ i → i < length d → put_at (set d i x) at s ≡ put_at d at (s ++ (x ∷ []))
+  put_snoc d at s i x e h =
+      ap (λ (l : List A). put_at l at s) (set_put d i x h ∙ ap (λ (k : ℕ). put_at d k (x ∷ [])) (sym e))
+      ∙ put_before d at s (x ∷ []) (omega arith)
 
   -- where nothing is left, all is written
   pub put_all : (d : List A) (at : ℕ) {rest whole : List A} → rest ≡ [] → put_at d at rest ≡ whole → d ≡ whole
-  put_all d at e l = sym (put-none d at) ∙ ap (put_at d at) (sym e) ∙ l
+  put_all d at e l = sym (put_none d at) ∙ ap (put_at d at) (sym e) ∙ l
 
   -- a turn of a loop that copies s
   pub put_next : (d : List A) (at : ℕ) (s : List A) (i : ℕ) (z : A) → at + i < length d → i < length s
       → put_at (set d (at + i) (get_or s i z)) (at + (i + 1)) (drop (i + 1) s) ≡ put_at d (at + i) (drop i s)
   put_next d at s i z h k =
       ap (λ (m : ℕ). put_at (set d (at + i) (get_or s i z)) m (drop (i + 1) s)) (sym (add_assoc at i 1))
-      ∙ put-cons d (at + i) (get_or s i z) (drop (i + 1) s) h
-      ∙ ap (put_at d (at + i)) (sym (drop-next s i z k))
+      ∙ put_cons d (at + i) (get_or s i z) (drop (i + 1) s) h
+      ∙ ap (put_at d (at + i)) (sym (drop_next s i z k))
 
   -- ---- as far as there are places
 
-  pub written-fits : (xs ys : List A) → length xs ≤ length ys → written xs ys ≡ over xs ys
-  written-fits xs ys h = ap (λ (l : List A). over l ys) (take_all (length ys) xs h)
+  pub written_fits : (xs ys : List A) → length xs ≤ length ys → written xs ys ≡ over xs ys
+  written_fits xs ys h = ap (λ (l : List A). over l ys) (take_all (length ys) xs h)
 
   pub written_none : (ys : List A) → written [] ys ≡ ys
-  written_none ys = written-fits [] ys (omega arith)
+  written_none ys = written_fits [] ys (omega arith)
 
-  pub written-long : (xs ys : List A) → length (written xs ys) ≡ length ys
-  written-long xs ys = simp (length-append, length-drop, length-take) (omega arith)
+  pub written_long : (xs ys : List A) → length (written xs ys) ≡ length ys
+  written_long xs ys = simp (length-append, length-drop, length-take) (omega arith)
 
   -- one element more, in its place or past the last one
-  pub written-set : (xs ys : List A) (x : A) → length xs < length ys → set (written xs ys) (length xs) x ≡ written (xs ++ (x ∷ [])) ys
-  written-set xs ys x h =
-      ap (λ (l : List A). set l (length xs) x) (written-fits xs ys (omega arith)) ∙ over-next xs ys x h
-      ∙ sym (written-fits (xs ++ (x ∷ [])) ys (omega (arith, length-append xs (x ∷ []))))
+  pub written_set : (xs ys : List A) (x : A) → length xs < length ys → set (written xs ys) (length xs) x ≡ written (xs ++ (x ∷ [])) ys
+  written_set xs ys x h =
+      ap (λ (l : List A). set l (length xs) x) (written_fits xs ys (omega arith)) ∙ over_next xs ys x h
+      ∙ sym (written_fits (xs ++ (x ∷ [])) ys (omega (arith, length-append xs (x ∷ []))))
 
-  pub written-past : (xs ys : List A) (x : A) → length ys ≤ length xs → written xs ys ≡ written (xs ++ (x ∷ [])) ys
-  written-past xs ys x h = ap (λ (l : List A). over l ys) (sym (take-append-le (length ys) xs (x ∷ []) h))
+  pub written_past : (xs ys : List A) (x : A) → length ys ≤ length xs → written xs ys ≡ written (xs ++ (x ∷ [])) ys
+  written_past xs ys x h = ap (λ (l : List A). over l ys) (sym (take-append-le (length ys) xs (x ∷ []) h))
 
   -- the same of a list that is copied, whatever z is
   pub written_next : (xs ys : List A) (k : ℕ) (z : A) → k < length xs → k < length ys → set (written (take k xs) ys) k (get_or xs k z) ≡ written (take (k + 1) xs) ys
   written_next xs ys k z h g =
       let l : length (take k xs) ≡ k = length-take-le k xs (omega arith) in
-      ap (λ (n : ℕ). set (written (take k xs) ys) n (get_or xs k z)) (sym l) ∙ written-set (take k xs) ys (get_or xs k z) (omega arith)
+      ap (λ (n : ℕ). set (written (take k xs) ys) n (get_or xs k z)) (sym l) ∙ written_set (take k xs) ys (get_or xs k z) (omega arith)
       ∙ rw (add-one k, take-suc xs k z h)
 
   pub written_over : (xs ys : List A) (k : ℕ) → length ys ≤ k → written (take k xs) ys ≡ written (take (k + 1) xs) ys

@@ -9,9 +9,9 @@ pub use borrow.Author.Tests.{not-true, not-false}
 use lib.Dec.{T, leb}
 
 -- a case on a test: what is to be shown, in either case from what the test then says
-pub by-test : (b : Bool) (C : Bool → Type 0) → (T b → C true) → (T (not b) → C false) → C b
-by-test true C f g = f tt
-by-test false C f g = g tt
+pub by_test : (b : Bool) (C : Bool → Type 0) → (T b → C true) → (T (not b) → C false) → C b
+by_test true C f g = f tt
+by_test false C f g = g tt
 
 pub holds : {b : Bool} → b ≡ true → T b
 holds e = subst T (sym e) tt
@@ -27,8 +27,8 @@ pub is_false : {b : Bool} → T (not b) → b ≡ false
 is_false {b = true} t = absurd t
 is_false {b = false} t = refl
 
-pub not-both : {b : Bool} → b ≡ true → b ≡ false → ⊥
-not-both e f = subst T (sym e ∙ f) tt
+pub not_both : {b : Bool} → b ≡ true → b ≡ false → ⊥
+not_both e f = subst T (sym e ∙ f) tt
 
 -- ---- tests joined
 
@@ -51,16 +51,16 @@ pub or_r : (a b : Bool) → a || b ≡ false → b ≡ false
 or_r true b e = no_true (sym e)
 or_r false b e = e
 
-pub or-left : {a : Bool} (b : Bool) → a ≡ true → a || b ≡ true
-or-left b e = λ j. e j || b
+pub or_left : {a : Bool} (b : Bool) → a ≡ true → a || b ≡ true
+or_left b e = λ j. e j || b
 
-pub or-right : (a : Bool) {b : Bool} → b ≡ true → a || b ≡ true
-or-right true e = refl
-or-right false e = e
+pub or_right : (a : Bool) {b : Bool} → b ≡ true → a || b ≡ true
+or_right true e = refl
+or_right false e = e
 
 -- two tests of naturals that hold together
-pub leb-same : (x y u v : ℕ) → (x ≤ y → u ≤ v) → (u ≤ v → x ≤ y) → leb x y ≡ leb u v
-leb-same x y u v there back = go (dec_le x y)
+pub leb_same : (x y u v : ℕ) → (x ≤ y → u ≤ v) → (u ≤ v → x ≤ y) → leb x y ≡ leb u v
+leb_same x y u v there back = go (dec_le x y)
   where
     go : Dec (x ≤ y) → leb x y ≡ leb u v
     go (yes p) = le-leb x y p ∙ sym (le-leb u v (there p))

@@ -9,11 +9,11 @@ within x limit = leb (nat_abs x) limit
 abbrev pub between : ℤ → ℤ → ℤ → Bool
 between low x high = le_z low x && le_z x high
 
-abbrev pub eqZ : ℤ → ℤ → Bool
-eqZ (pos a) (pos b) = eqb a b
-eqZ (pos a) (negsuc b) = false
-eqZ (negsuc a) (pos b) = false
-eqZ (negsuc a) (negsuc b) = eqb a b
+abbrev pub eq_z : ℤ → ℤ → Bool
+eq_z (pos a) (pos b) = eqb a b
+eq_z (pos a) (negsuc b) = false
+eq_z (negsuc a) (pos b) = false
+eq_z (negsuc a) (negsuc b) = eqb a b
 
 abbrev pub sum : List ℤ → ℤ
 sum [] = pos 0

@@ -13,5 +13,5 @@ Applies n (t ∷ ts) = ((t.0 ≡ n) × (t.1 ≡ true)) ⊎ Applies n ts
 
 -- n is 0 where nothing applies; otherwise n applies, and nothing that applies stands lower by `rank`
 pub data Lowest (rank : ℕ → ℕ) (ts : List (ℕ × Bool)) : ℕ → Type 0 where
-  none-applies : ((m : ℕ) → Applies m ts → ⊥) → Lowest rank ts 0
+  none_applies : ((m : ℕ) → Applies m ts → ⊥) → Lowest rank ts 0
   applies : {n : ℕ} → Applies n ts → ((m : ℕ) → Applies m ts → rank n ≤ rank m) → Lowest rank ts n

@@ -3,5 +3,5 @@ use Rattle.std.specs.Prelude.{Bool, ℕ, ℤ, pos, ◌*ℤ◌}
 use Rattle.std.specs.Int.Signed.{le_z}
 
 -- whether a × x² is at most b × l
-unfoldable pub isWithin : ℕ → ℤ → ℕ → ℤ → Bool
-isWithin a x b l = le_z (pos a *ℤ (x *ℤ x)) (pos b *ℤ l)
+unfoldable pub is_within : ℕ → ℤ → ℕ → ℤ → Bool
+is_within a x b l = le_z (pos a *ℤ (x *ℤ x)) (pos b *ℤ l)

@@ -1,6 +1,6 @@
 // Root limits decided without a root: a * x * x <= b * l over whole numbers, for every a, x, b and l.
 ghost use Rattle.std.specs.Prelude.{◌≡◌, nat_abs};
-ghost use Rattle.roots.specs.Limit.{isWithin};
+ghost use Rattle.roots.specs.Limit.{is_within};
 
 use super::wide::at_most;
 
@@ -13,7 +13,7 @@ pub fn magnitude(x: i64) -> u64
 
 // Whether a * x * x is at most b * l.
 pub fn within(a: u16, x: i64, b: u16, l: i64) -> bool
-    ensures { result ≡ isWithin a x b l }
+    ensures { result ≡ is_within a x b l }
 {
     let m = magnitude(x);
     if l < 0 {

@@ -1,6 +1,6 @@
 // Rounding to even without branches: a comparison becomes 0 or 1, and that number does the choosing.
 ghost use Rattle.std.specs.Prelude.{◌≡◌, cond, pos, nat_abs, ◌-ℤ◌, ◌*ℤ◌, ◌≤ℤ◌};
-ghost use Rattle.roots.specs.Round.{divisor, floorDiv, roundEven};
+ghost use Rattle.roots.specs.Round.{divisor, floor_div, round_even};
 
 // x where b holds, y otherwise.
 pub fn select(b: bool, x: i64, y: i64) -> i64
@@ -24,7 +24,7 @@ fn divisor_of(d: i64) -> i64
 // n / d, rounded down.
 fn floor_of(n: i64, d: i64) -> i64
     requires { pos 1 ≤ℤ d }
-    ensures { result ≡ floorDiv n (nat_abs d) }
+    ensures { result ≡ floor_div n (nat_abs d) }
 {
     n / d - (n % d < 0) as i64
 }
@@ -32,7 +32,7 @@ fn floor_of(n: i64, d: i64) -> i64
 // What n has above that multiple of d.
 fn excess_of(n: i64, d: i64) -> i64
     requires { pos 1 ≤ℤ d }
-    ensures { result ≡ n -ℤ d *ℤ floorDiv n (nat_abs d) }
+    ensures { result ≡ n -ℤ d *ℤ floor_div n (nat_abs d) }
 {
     let r = n % d;
     r + d * ((r < 0) as i64)
@@ -40,7 +40,7 @@ fn excess_of(n: i64, d: i64) -> i64
 
 // The nearest whole number to n / d, a tie going to the even one; d is held to 1 to 4 * 10^18.
 pub fn round_half_even(n: i64, d: i64) -> i64
-    ensures { result ≡ roundEven n (divisor d) }
+    ensures { result ≡ round_even n (divisor d) }
 {
     let e = divisor_of(d);
     let q = floor_of(n, e);

@@ -3,7 +3,7 @@
 use Rattle.std.specs.Prelude.{◌≡◌, refl, List, [], ◌∷◌, ℕ, ◌+◌, get_or, ℤ, pos}
 use Rattle.records.specs.declared.Tag.{Tag}
 use Rattle.records.specs.declared.Tag.TheVariants.{Lin, Sta, Run, Drr, Drs, End, Spr, Fin, Ang}
-use Rattle.rules.specs.Rules.{Call, open-line, station, end-run, drop-run, drop-section, close-line, open-spur, close-spur, collimation}
+use Rattle.rules.specs.Rules.{Call, open_line, station, end_run, drop_run, drop_section, close_line, open_spur, close_spur, collimation}
 
 -- number k of a record, counted from 0
 abbrev pub argument : List ℤ → ℕ → ℤ
@@ -16,18 +16,18 @@ readings v k = argument v k ∷ argument v (k + 1) ∷ argument v (k + 2) ∷ ar
 -- LIN and SPR: order, instrument, start number and height. STA: the constant and the readings of the back staff, then of the fore staff. RUN: the number.
 -- END: the last number and the end height. FIN: the last number. ANG: A1, B1, A2, B2, D1 and D2
 abbrev pub call_of : Tag → List ℤ → Call
-call_of Lin v = open-line (argument v 0) (argument v 1) (argument v 2) (argument v 3)
+call_of Lin v = open_line (argument v 0) (argument v 1) (argument v 2) (argument v 3)
 call_of Sta v = station (argument v 0) (argument v 5) (readings v 1 ∷ readings v 6 ∷ [])
-call_of Run v = end-run (argument v 0)
-call_of Drr v = drop-run
-call_of Drs v = drop-section
-call_of End v = close-line (argument v 0) (argument v 1)
-call_of Spr v = open-spur (argument v 0) (argument v 1) (argument v 2) (argument v 3)
-call_of Fin v = close-spur (argument v 0)
+call_of Run v = end_run (argument v 0)
+call_of Drr v = drop_run
+call_of Drs v = drop_section
+call_of End v = close_line (argument v 0) (argument v 1)
+call_of Spr v = open_spur (argument v 0) (argument v 1) (argument v 2) (argument v 3)
+call_of Fin v = close_spur (argument v 0)
 call_of Ang v = collimation (argument v 0 ∷ argument v 1 ∷ argument v 2 ∷ argument v 3 ∷ argument v 4 ∷ argument v 5 ∷ [])
 
 -- ---- worked
 
-pub example-station : call_of Sta (pos 4687 ∷ pos 1571 ∷ pos 1197 ∷ pos 1384 ∷ pos 6171 ∷ pos 4787 ∷ pos 739 ∷ pos 363 ∷ pos 551 ∷ pos 5239 ∷ [])
+pub example_station : call_of Sta (pos 4687 ∷ pos 1571 ∷ pos 1197 ∷ pos 1384 ∷ pos 6171 ∷ pos 4787 ∷ pos 739 ∷ pos 363 ∷ pos 551 ∷ pos 5239 ∷ [])
     ≡ station (pos 4687) (pos 4787) ((pos 1571 ∷ pos 1197 ∷ pos 1384 ∷ pos 6171 ∷ []) ∷ (pos 739 ∷ pos 363 ∷ pos 551 ∷ pos 5239 ∷ []) ∷ [])
-example-station = refl
+example_station = refl

@@ -1,7 +1,7 @@
 // The test of 20: whether a line's counts and sums can be, as all can that calls leave. And what a call looks at first: that, and whether the loop is shut.
 ghost use Rattle.std.specs.Prelude.{◌≡◌};
-ghost use Rattle.rules.specs.LineState.{runFits, waitingBroken, misplaced, lineBroken};
-ghost use Rattle.rules.specs.code.Seen.{seenIn};
+ghost use Rattle.rules.specs.LineState.{run_fits, waiting_broken, misplaced, line_broken};
+ghost use Rattle.rules.specs.code.Seen.{seen_in};
 
 use super::position::{is_closed, is_fresh, is_return, on_line};
 use super::{Line, Run, Waiting};
@@ -9,7 +9,7 @@ use adjust::terms::terms_of;
 use roots::limits::magnitude;
 
 fn run_fits(u: Run) -> bool
-    ensures { result ≡ runFits u }
+    ensures { result ≡ run_fits u }
 {
     if 200 < u.count {
         return false;
@@ -21,7 +21,7 @@ fn run_fits(u: Run) -> bool
 }
 
 fn waiting_broken(waiting: Waiting, count: usize) -> bool
-    ensures { result ≡ waitingBroken waiting count }
+    ensures { result ≡ waiting_broken waiting count }
 {
     match waiting {
         Waiting::Nothing => false,
@@ -45,7 +45,7 @@ fn is_misplaced(line: Line, count: usize) -> bool
 
 // Refusal 20 of a line beside count sections.
 pub(crate) fn line_broken(line: Line, count: usize) -> bool
-    ensures { result ≡ lineBroken line count }
+    ensures { result ≡ line_broken line count }
 {
     let waiting = line.waiting;
     let present = line.present;
@@ -66,7 +66,7 @@ pub(crate) struct Seen {
 
 // The numbers of its sections are lent: a book by value would be copied to be looked at.
 pub(crate) fn look(line: Line, count: usize, numbers: &[i64; 64]) -> Seen
-    ensures { result ≡ seenIn line count numbers.now }
+    ensures { result ≡ seen_in line count numbers.now }
 {
     if line_broken(line, count) {
         return Seen {

@@ -1,11 +1,11 @@
 // The refusals of closing.
 ghost use Rattle.std.specs.Prelude.{◌≡◌, true, false, ◌≤◌};
 ghost use Rattle.numbers.specs.Tables.{first_of};
-ghost use Rattle.adjust.specs.Sections.{sectionsOf, heightInRange};
-ghost use Rattle.adjust.specs.Frames.{figuresFit};
-ghost use Rattle.rules.specs.LineState.{stateIn, isShut};
-ghost use Rattle.rules.specs.code.Seen.{numbersIn};
-ghost use Rattle.rules.specs.Rules.{close-line, close-spur, closeTests, broken, lengthLimit, totalTests, lineTests, figuresTests, inputTests, stateTests, bookRefusal};
+ghost use Rattle.adjust.specs.Sections.{sections_of, height_in_range};
+ghost use Rattle.adjust.specs.Frames.{figures_fit};
+ghost use Rattle.rules.specs.LineState.{state_in, is_shut};
+ghost use Rattle.rules.specs.code.Seen.{numbers_in};
+ghost use Rattle.rules.specs.Rules.{close_line, close_spur, close_tests, broken, length_limit, total_tests, line_tests, figures_tests, input_tests, state_tests, book_refusal};
 
 use super::Line;
 use super::broken::{line_broken, look};
@@ -18,13 +18,13 @@ use station::pick;
 
 // The longest line, or the longest loop, in half dm.
 fn length_limit(terms: Terms, shut: bool) -> i64
-    ensures { result ≡ lengthLimit terms shut }
+    ensures { result ≡ length_limit terms shut }
 {
     if shut { terms.circuit } else { terms.longest }
 }
 
 fn close_input(number: i64, end: i64) -> u8
-    ensures { result ≡ first_of (inputTests (close-line number end)) }
+    ensures { result ≡ first_of (input_tests (close_line number end)) }
 {
     let five = pick(!adjust::height_in_range(end), 5, 0);
     pick(!number_in_range(number), 4, five)
@@ -32,7 +32,7 @@ fn close_input(number: i64, end: i64) -> u8
 
 // The refusal of a line by its length and its closure: 35 or 36, or 0.
 fn limit_refusal(terms: Terms, shut: bool, t: Totals) -> u8
-    ensures { result ≡ first_of (totalTests terms shut t) }
+    ensures { result ≡ first_of (total_tests terms shut t) }
 {
     let limit = length_limit(terms, shut);
     let root = terms.closing;
@@ -42,8 +42,8 @@ fn limit_refusal(terms: Terms, shut: bool, t: Totals) -> u8
 
 // The same of a line with sections. There are totals, since the figures fit.
 fn line_refusal(line: Line, sections: Sections, end: i64, shut: bool) -> u8
-    requires { (figuresFit line.opening.start.height end (sectionsOf sections) ≡ true) × (shut ≡ isShut (record { line = line; sections = sectionsOf sections })) }
-    ensures { result ≡ first_of (lineTests (record { line = line; sections = sectionsOf sections }) end) }
+    requires { (figures_fit line.opening.start.height end (sections_of sections) ≡ true) × (shut ≡ is_shut (record { line = line; sections = sections_of sections })) }
+    ensures { result ≡ first_of (line_tests (record { line = line; sections = sections_of sections }) end) }
 {
     let opening = line.opening;
     let class = opening.class;
@@ -65,7 +65,7 @@ fn closing_state(
     unlike: bool,
 ) -> u8
     requires { count ≤ 64 }
-    ensures { result ≡ first_of (closeTests (numbersIn line count numbers.now) other number unlike) }
+    ensures { result ≡ first_of (close_tests (numbers_in line count numbers.now) other number unlike) }
 {
     let stage = line.stage;
     let waiting = line.waiting;
@@ -91,9 +91,9 @@ fn close_state<'a>(
     number: i64,
     end: i64,
 ) -> u8
-    requires { ((broken (stateIn line count numbers.now heights.now distances.now discrepancies.now) (close-line number end) ≡ false)
-        × (shut ≡ isShut (stateIn line count numbers.now heights.now distances.now discrepancies.now))) × (heightInRange end ≡ true) }
-    ensures { result ≡ first_of (stateTests (stateIn line count numbers.now heights.now distances.now discrepancies.now) (close-line number end)) }
+    requires { ((broken (state_in line count numbers.now heights.now distances.now discrepancies.now) (close_line number end) ≡ false)
+        × (shut ≡ is_shut (state_in line count numbers.now heights.now distances.now discrepancies.now))) × (height_in_range end ≡ true) }
+    ensures { result ≡ first_of (state_tests (state_in line count numbers.now heights.now distances.now discrepancies.now) (close_line number end)) }
 {
     let opening = line.opening;
     let class = opening.class;
@@ -124,7 +124,7 @@ pub fn close_refusal<'a>(
     number: i64,
     end: i64,
 ) -> u8
-    ensures { result ≡ bookRefusal (stateIn line count numbers.now heights.now distances.now discrepancies.now) (close-line number end) }
+    ensures { result ≡ book_refusal (state_in line count numbers.now heights.now distances.now discrepancies.now) (close_line number end) }
 {
     let input = close_input(number, end);
     if input != 0 {
@@ -158,7 +158,7 @@ pub fn close_spur_refusal<'a>(
     discrepancies: &'a [i64; 64],
     number: i64,
 ) -> u8
-    ensures { result ≡ bookRefusal (stateIn line count numbers.now heights.now distances.now discrepancies.now) (close-spur number) }
+    ensures { result ≡ book_refusal (state_in line count numbers.now heights.now distances.now discrepancies.now) (close_spur number) }
 {
     if !number_in_range(number) {
         return 4;
@@ -175,7 +175,7 @@ pub fn close_spur_refusal<'a>(
 
 // The refusal of asking for the figures of a closed line: 20 or 21, or 0.
 pub fn figures_refusal(line: Line, s: Sections) -> u8
-    ensures { result ≡ first_of (figuresTests (record { line = line; sections = sectionsOf s })) }
+    ensures { result ≡ first_of (figures_tests (record { line = line; sections = sections_of s })) }
 {
     let stage = line.stage;
     let misfit = adjust::table::misfits(s.count, &s.heights, &s.distances, &s.discrepancies);

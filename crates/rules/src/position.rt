@@ -2,14 +2,14 @@
 ghost use Rattle.std.specs.Prelude.{◌≡◌, map, ◌≤◌, length};
 ghost use Rattle.numbers.specs.Numbers.{last_of};
 ghost use Rattle.adjust.specs.declared.Section.{Section};
-ghost use Rattle.adjust.specs.Sections.{sectionsOf};
-ghost use Rattle.rules.specs.LineState.{isFresh, isOpen, isClosed, isReturn};
-ghost use Rattle.rules.specs.code.Seen.{numbered, isAmong};
+ghost use Rattle.adjust.specs.Sections.{sections_of};
+ghost use Rattle.rules.specs.LineState.{is_fresh, is_open, is_closed, is_return};
+ghost use Rattle.rules.specs.code.Seen.{numbered, is_among};
 
 use super::{Stage, Waiting};
 
 pub(crate) fn is_fresh(stage: Stage) -> bool
-    ensures { result ≡ isFresh stage }
+    ensures { result ≡ is_fresh stage }
 {
     match stage {
         Stage::Fresh => true,
@@ -19,7 +19,7 @@ pub(crate) fn is_fresh(stage: Stage) -> bool
 }
 
 pub(crate) fn is_open(stage: Stage) -> bool
-    ensures { result ≡ isOpen stage }
+    ensures { result ≡ is_open stage }
 {
     match stage {
         Stage::Fresh => false,
@@ -29,7 +29,7 @@ pub(crate) fn is_open(stage: Stage) -> bool
 }
 
 pub fn is_closed(stage: Stage) -> bool
-    ensures { result ≡ isClosed stage }
+    ensures { result ≡ is_closed stage }
 {
     match stage {
         Stage::Fresh => false,
@@ -39,7 +39,7 @@ pub fn is_closed(stage: Stage) -> bool
 }
 
 pub(crate) fn is_return(waiting: Waiting) -> bool
-    ensures { result ≡ isReturn waiting }
+    ensures { result ≡ is_return waiting }
 {
     match waiting {
         Waiting::Nothing => false,
@@ -50,7 +50,7 @@ pub(crate) fn is_return(waiting: Waiting) -> bool
 // Whether this is one of the first count numbers.
 pub(crate) fn on_line(numbers: &[i64], count: usize, number: i64) -> bool
     requires { count ≤ length numbers.now }
-    ensures { result ≡ isAmong count numbers.now number }
+    ensures { result ≡ is_among count numbers.now number }
 {
     for k in 0..count {
         if numbers[k] == number {
@@ -63,7 +63,7 @@ pub(crate) fn on_line(numbers: &[i64], count: usize, number: i64) -> bool
 // The benchmark where the present section began.
 pub(crate) fn began_at(start: i64, count: usize, numbers: &[i64; 64]) -> i64
     requires { count ≤ 64 }
-    ensures { result ≡ last_of start (map (λ (x : Section). x.number) (sectionsOf (numbered count numbers.now))) }
+    ensures { result ≡ last_of start (map (λ (x : Section). x.number) (sections_of (numbered count numbers.now))) }
 {
     if count == 0 {
         return start;

@@ -1,12 +1,12 @@
 // The refusals of the calls: what the input alone causes, a station's apart, then 20, then what the book's state causes, the first that applies.
 ghost use Rattle.std.specs.Prelude.{◌≡◌, false, not, cond, ◌≤◌};
-ghost use Rattle.numbers.specs.Numbers.{eqZ};
+ghost use Rattle.numbers.specs.Numbers.{eq_z};
 ghost use Rattle.numbers.specs.Tables.{first_of};
-ghost use Rattle.rules.specs.LineState.{isShut, outwardOrReturn, bothWays};
-ghost use Rattle.rules.specs.code.Seen.{numbersIn, beside};
-ghost use Rattle.rules.specs.code.Opened.{openRefusal};
+ghost use Rattle.rules.specs.LineState.{is_shut, outward_or_return, both_ways};
+ghost use Rattle.rules.specs.code.Seen.{numbers_in, beside};
+ghost use Rattle.rules.specs.code.Opened.{open_refusal};
 ghost use Rattle.rules.specs.code.Bounds.{SmallRuns};
-ghost use Rattle.rules.specs.Rules.{open-line, end-run, drop-run, open-spur, collimation, openTests, numberInRange, numberAllowed, countedLength, discrepancyWithin, outOfTurn, stationTests, bookStationTests, stateTests, bookRefusal};
+ghost use Rattle.rules.specs.Rules.{open_line, end_run, drop_run, open_spur, collimation, open_tests, number_in_range, number_allowed, counted_length, discrepancy_within, out_of_turn, station_tests, book_station_tests, state_tests, book_refusal};
 
 use super::broken::{line_broken, look};
 use super::position::{began_at, is_fresh, is_open, is_return, on_line};
@@ -17,7 +17,7 @@ use roots::limits::within;
 use station::{Figures, pick};
 
 pub(crate) fn number_in_range(n: i64) -> bool
-    ensures { result ≡ numberInRange n }
+    ensures { result ≡ number_in_range n }
 {
     (1 <= n) & (n <= 9999)
 }
@@ -26,7 +26,7 @@ pub(crate) fn number_in_range(n: i64) -> bool
 
 // Of a line or a spur, with an order that is or is not one of those that may be opened so.
 fn open_input(ordered: bool, instrument: i64, number: i64, height: i64) -> u8
-    ensures { result ≡ first_of (openTests ordered instrument number height) }
+    ensures { result ≡ first_of (open_tests ordered instrument number height) }
 {
     let instruments = (instrument == 1) | (instrument == 3);
     let five = pick(!adjust::height_in_range(height), 5, 0);
@@ -42,7 +42,7 @@ fn opening_refusal(
     number: i64,
     height: i64,
 ) -> u8
-    ensures { result ≡ openRefusal (beside line count) ordered instrument number height }
+    ensures { result ≡ open_refusal (beside line count) ordered instrument number height }
 {
     let input = open_input(ordered, instrument, number, height);
     if input != 0 {
@@ -63,7 +63,7 @@ pub fn open_refusal(
     number: i64,
     height: i64,
 ) -> u8
-    ensures { result ≡ bookRefusal (beside line count) (open-line order instrument number height) }
+    ensures { result ≡ book_refusal (beside line count) (open_line order instrument number height) }
 {
     let ordered = (order == 3) | (order == 4);
     opening_refusal(line, count, ordered, instrument, number, height)
@@ -78,7 +78,7 @@ pub fn open_spur_refusal(
     number: i64,
     height: i64,
 ) -> u8
-    ensures { result ≡ bookRefusal (beside line count) (open-spur order instrument number height) }
+    ensures { result ≡ book_refusal (beside line count) (open_spur order instrument number height) }
 {
     opening_refusal(line, count, order == 4, instrument, number, height)
 }
@@ -87,7 +87,7 @@ pub fn open_spur_refusal(
 
 // Whether the first back staff of a return is the one that ended the outward run.
 fn same_staff(waiting: Waiting, kb: i64) -> bool
-    ensures { result ≡ outwardOrReturn waiting false (λ number run. eqZ kb run.last) }
+    ensures { result ≡ outward_or_return waiting false (λ number run. eq_z kb run.last) }
 {
     match waiting {
         Waiting::Nothing => false,
@@ -96,7 +96,7 @@ fn same_staff(waiting: Waiting, kb: i64) -> bool
 }
 
 fn out_of_turn(line: Line, kb: i64) -> bool
-    ensures { result ≡ outOfTurn line kb }
+    ensures { result ≡ out_of_turn line kb }
 {
     let waiting = line.waiting;
     if line.present.count == 0 {
@@ -107,7 +107,7 @@ fn out_of_turn(line: Line, kb: i64) -> bool
 
 // The refusal that the line causes to a station with the figures f.
 fn station_state(line: Line, shut: bool, kb: i64, f: Figures) -> u8
-    ensures { result ≡ first_of (stationTests line shut kb f) }
+    ensures { result ≡ first_of (station_tests line shut kb f) }
 {
     let stage = line.stage;
     let opening = line.opening;
@@ -129,7 +129,7 @@ fn station_state(line: Line, shut: bool, kb: i64, f: Figures) -> u8
 
 // The refusal of a station with the figures f, whose back staff has the constant kb: 20 to 28 or 46, or 0. 6, 7 and 8 are told by `station::read`.
 pub fn station_refusal(line: Line, count: usize, numbers: &[i64; 64], kb: i64, f: Figures) -> u8
-    ensures { result ≡ first_of (bookStationTests (numbersIn line count numbers.now) kb f) }
+    ensures { result ≡ first_of (book_station_tests (numbers_in line count numbers.now) kb f) }
 {
     let seen = look(line, count, numbers);
     if seen.broken {
@@ -141,7 +141,7 @@ pub fn station_refusal(line: Line, count: usize, numbers: &[i64; 64], kb: i64, f
 // ---- the collimation test
 
 pub fn collimation_refusal(line: Line, count: usize, x: [i64; 6]) -> u8
-    ensures { result ≡ bookRefusal (beside line count) (collimation x) }
+    ensures { result ≡ book_refusal (beside line count) (collimation x) }
 {
     let input = input_refusal(x);
     if input != 0 {
@@ -159,7 +159,7 @@ pub fn collimation_refusal(line: Line, count: usize, x: [i64; 6]) -> u8
 // ---- drop run, and drop section, whose tests are the same
 
 pub fn drop_refusal(line: Line, count: usize) -> u8
-    ensures { result ≡ bookRefusal (beside line count) drop-run }
+    ensures { result ≡ book_refusal (beside line count) drop_run }
 {
     if line_broken(line, count) {
         return 20;
@@ -172,7 +172,7 @@ pub fn drop_refusal(line: Line, count: usize) -> u8
 
 fn number_allowed(line: Line, count: usize, numbers: &[i64; 64], number: i64) -> bool
     requires { count ≤ 64 }
-    ensures { result ≡ numberAllowed (numbersIn line count numbers.now) number }
+    ensures { result ≡ number_allowed (numbers_in line count numbers.now) number }
 {
     let waiting = line.waiting;
     let start = line.opening.start.number;
@@ -188,7 +188,7 @@ fn number_allowed(line: Line, count: usize, numbers: &[i64; 64], number: i64) ->
 
 // R as it counts for D: below 0.10 km as 0.10 km.
 fn counted_length(r: i64) -> i64
-    ensures { result ≡ countedLength r }
+    ensures { result ≡ counted_length r }
 {
     if r < 2000 { 2000 } else { r }
 }
@@ -196,7 +196,7 @@ fn counted_length(r: i64) -> i64
 // Whether an outward run and its return, the present run, are too far apart.
 fn too_far(apart: Root, waiting: Waiting, present: Run) -> bool
     requires { SmallRuns waiting present }
-    ensures { result ≡ outwardOrReturn waiting false (λ number run. not (discrepancyWithin apart (bothWays number run present))) }
+    ensures { result ≡ outward_or_return waiting false (λ number run. not (discrepancy_within apart (both_ways number run present))) }
 {
     match waiting {
         Waiting::Nothing => false,
@@ -211,8 +211,8 @@ fn too_far(apart: Root, waiting: Waiting, present: Run) -> bool
 
 // The refusal that the line and the numbers of its sections cause; their heights, lengths and discrepancies do not matter.
 fn end_state(line: Line, count: usize, numbers: &[i64; 64], shut: bool, number: i64) -> u8
-    requires { ((count ≤ 64) × SmallRuns line.waiting line.present) × (shut ≡ isShut (numbersIn line count numbers.now)) }
-    ensures { result ≡ first_of (stateTests (numbersIn line count numbers.now) (end-run number)) }
+    requires { ((count ≤ 64) × SmallRuns line.waiting line.present) × (shut ≡ is_shut (numbers_in line count numbers.now)) }
+    ensures { result ≡ first_of (state_tests (numbers_in line count numbers.now) (end_run number)) }
 {
     let stage = line.stage;
     let waiting = line.waiting;
@@ -230,7 +230,7 @@ fn end_state(line: Line, count: usize, numbers: &[i64; 64], shut: bool, number: 
 }
 
 pub fn end_refusal(line: Line, count: usize, numbers: &[i64; 64], number: i64) -> u8
-    ensures { result ≡ bookRefusal (numbersIn line count numbers.now) (end-run number) }
+    ensures { result ≡ book_refusal (numbers_in line count numbers.now) (end_run number) }
 {
     if !number_in_range(number) {
         return 4;

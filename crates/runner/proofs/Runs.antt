@@ -5,32 +5,32 @@ use lib.ListN.{length}
 use Rattle.adjust.specs.Sections.{holding}
 use Rattle.rules.specs.declared.Stage.TheVariants.{Closed}
 use Rattle.book.specs.declared.ClosedFigures.{ClosedFigures}
-use Rattle.book.specs.Calls.{closeFigures, figuresOf}
-use Rattle.ledger.specs.Plain.{Reading, freshReading, after}
+use Rattle.book.specs.Calls.{close_figures, figures_of}
+use Rattle.ledger.specs.Plain.{Reading, fresh_reading, after}
 use Rattle.ledger.specs.Entries.{calls_of}
-use Rattle.ledger.proofs.Kept.{calls-kept}
-use Rattle.ledger.proofs.Every.{every-list, same-figures}
-use Rattle.ledger.proofs.Again.{bookOf, figures-again}
-use Rattle.ledger.proofs.Entries.{reading-calls, numbers-calls}
-use Rattle.ledger.proofs.Traced.{every-trace}
-use Rattle.runner.specs.Calls.{entriesOf}
-use Rattle.runner.specs.Figures.{summaryOf, headFigures, pointFigures}
-use Rattle.runner.specs.Claims.{stateAfter, EveryRun, RunAsMade}
+use Rattle.ledger.proofs.Kept.{calls_kept}
+use Rattle.ledger.proofs.Every.{every_list, same_figures}
+use Rattle.ledger.proofs.Again.{book_of, figures_again}
+use Rattle.ledger.proofs.Entries.{reading_calls, numbers_calls}
+use Rattle.ledger.proofs.Traced.{every_trace}
+use Rattle.runner.specs.Calls.{entries_of}
+use Rattle.runner.specs.Figures.{summary_of, head_figures, point_figures}
+use Rattle.runner.specs.Claims.{state_after, EveryRun, RunAsMade}
 
-pub every-run : EveryRun
+pub every_run : EveryRun
 unfolding holding
-every-run xs shut =
-    let calls = calls_of (entriesOf xs) in
-    let same = reading-calls freshReading (entriesOf xs) in
-    let closed : (after freshReading calls).stage ≡ Closed = ap (λ (r : Reading). r.stage) (sym same) ∙ shut in
-    let again = ap (λ (r : Reading). figuresOf (bookOf r)) same ∙ figures-again (after freshReading calls) (calls-kept calls) closed ∙ ap (closeFigures 0) (same-figures calls closed) in
+every_run xs shut =
+    let calls = calls_of (entries_of xs) in
+    let same = reading_calls fresh_reading (entries_of xs) in
+    let closed : (after fresh_reading calls).stage ≡ Closed = ap (λ (r : Reading). r.stage) (sym same) ∙ shut in
+    let again = ap (λ (r : Reading). figures_of (book_of r)) same ∙ figures_again (after fresh_reading calls) (calls_kept calls) closed ∙ ap (close_figures 0) (same_figures calls closed) in
     record {
-      closing = every-list calls closed;
+      closing = every_list calls closed;
       figures =
-          ap (λ (f : ClosedFigures). headFigures (summaryOf f.answer) (stateAfter xs).line.present (length (stateAfter xs).sections) ++ pointFigures f.points) again;
+          ap (λ (f : ClosedFigures). head_figures (summary_of f.answer) (state_after xs).line.present (length (state_after xs).sections) ++ point_figures f.points) again;
     }
 
-pub run-as-made : RunAsMade
-run-as-made xs b e ns gs f t =
-    let s = every-trace b e (calls_of (entriesOf xs)) ns gs f t in
-    (numbers-calls freshReading (entriesOf xs) ∙ sym s.numbers, ap bookOf (reading-calls freshReading (entriesOf xs)) ∙ sym s.book)
+pub run_as_made : RunAsMade
+run_as_made xs b e ns gs f t =
+    let s = every_trace b e (calls_of (entries_of xs)) ns gs f t in
+    (numbers_calls fresh_reading (entries_of xs) ∙ sym s.numbers, ap book_of (reading_calls fresh_reading (entries_of xs)) ∙ sym s.book)

@@ -1,63 +1,63 @@
 -- Entries of a book in a list of numbers, 11 an entry: a kind, then the ten numbers of its record (`call_of` of rules/specs/Records.antt). What is not so
 -- is refused with 1, as a line of a text that is no record is.
 use Rattle.std.specs.Prelude.{◌≡◌, refl, cond, List, [], ◌∷◌, ◌++◌, ℕ, zero, suc, ◌+◌, ◌/◌, leb, length, get_or, take, drop, ℤ, pos, negsuc}
-use Rattle.numbers.specs.Numbers.{eqZ, written}
+use Rattle.numbers.specs.Numbers.{eq_z, written}
 use Rattle.records.specs.declared.Kind.{Kind}
 use Rattle.records.specs.declared.Kind.TheVariants.{Record, Refused}
 use Rattle.records.specs.declared.Tag.TheVariants.{Lin, Sta, Run, Drr, Drs, End, Spr, Fin, Ang}
-use Rattle.rules.specs.Rules.{open-line, station, close-line, open-spur, close-spur, collimation}
+use Rattle.rules.specs.Rules.{open_line, station, close_line, open_spur, close_spur, collimation}
 use Rattle.ledger.specs.Entries.{Entry, asks, refused, entry_of}
 
 -- the record of a kind
 unfoldable pub kind_of : ℤ → Kind
 kind_of k =
-    cond (eqZ k (pos 1)) (Record Lin)
-    (cond (eqZ k (pos 2)) (Record Sta)
-    (cond (eqZ k (pos 3)) (Record Run)
-    (cond (eqZ k (pos 4)) (Record Drr)
-    (cond (eqZ k (pos 5)) (Record Drs)
-    (cond (eqZ k (pos 6)) (Record End)
-    (cond (eqZ k (pos 7)) (Record Spr)
-    (cond (eqZ k (pos 8)) (Record Fin)
-    (cond (eqZ k (pos 9)) (Record Ang)
+    cond (eq_z k (pos 1)) (Record Lin)
+    (cond (eq_z k (pos 2)) (Record Sta)
+    (cond (eq_z k (pos 3)) (Record Run)
+    (cond (eq_z k (pos 4)) (Record Drr)
+    (cond (eq_z k (pos 5)) (Record Drs)
+    (cond (eq_z k (pos 6)) (Record End)
+    (cond (eq_z k (pos 7)) (Record Spr)
+    (cond (eq_z k (pos 8)) (Record Fin)
+    (cond (eq_z k (pos 9)) (Record Ang)
     (Refused 1)))))))))
 
 -- the first entry of a list, refused where the list is too short for it
-unfoldable pub firstEntry : List ℤ → Entry
-firstEntry xs = cond (leb 11 (length xs)) (entry_of (kind_of (get_or xs 0 (pos 0))) (take 10 (drop 1 xs))) (refused 1)
+unfoldable pub first_entry : List ℤ → Entry
+first_entry xs = cond (leb 11 (length xs)) (entry_of (kind_of (get_or xs 0 (pos 0))) (take 10 (drop 1 xs))) (refused 1)
 
 -- the first n entries
-unfoldable pub firstEntries : ℕ → List ℤ → List Entry
-firstEntries zero xs = []
-firstEntries (suc n) xs = firstEntry xs ∷ firstEntries n (drop 11 xs)
+unfoldable pub first_entries : ℕ → List ℤ → List Entry
+first_entries zero xs = []
+first_entries (suc n) xs = first_entry xs ∷ first_entries n (drop 11 xs)
 
 -- all entries; a rest of 1 to 10 numbers is one too
-abbrev pub entriesOf : List ℤ → List Entry
-entriesOf xs = firstEntries ((length xs + 10) / 11) xs
+abbrev pub entries_of : List ℤ → List Entry
+entries_of xs = first_entries ((length xs + 10) / 11) xs
 
 -- ---- worked
 
-abbrev nothingMore : List ℤ
-nothingMore = pos 0 ∷ pos 0 ∷ pos 0 ∷ pos 0 ∷ pos 0 ∷ pos 0 ∷ []
+abbrev nothing_more : List ℤ
+nothing_more = pos 0 ∷ pos 0 ∷ pos 0 ∷ pos 0 ∷ pos 0 ∷ pos 0 ∷ []
 
 abbrev pub example : List ℤ
 example =
-    pos 1 ∷ pos 4 ∷ pos 3 ∷ pos 1 ∷ pos 10000 ∷ nothingMore
+    pos 1 ∷ pos 4 ∷ pos 3 ∷ pos 1 ∷ pos 10000 ∷ nothing_more
     ++ (pos 2 ∷ pos 4687 ∷ pos 1571 ∷ pos 1197 ∷ pos 1384 ∷ pos 6171 ∷ pos 4787 ∷ pos 739 ∷ pos 363 ∷ pos 551 ∷ pos 5239 ∷ [])
-    ++ (pos 6 ∷ pos 2 ∷ negsuc 0 ∷ pos 0 ∷ pos 0 ∷ nothingMore)
-    ++ (pos 7 ∷ pos 4 ∷ pos 3 ∷ pos 1 ∷ pos 10000 ∷ nothingMore)
-    ++ (pos 8 ∷ pos 2 ∷ pos 0 ∷ pos 0 ∷ pos 0 ∷ nothingMore)
+    ++ (pos 6 ∷ pos 2 ∷ negsuc 0 ∷ pos 0 ∷ pos 0 ∷ nothing_more)
+    ++ (pos 7 ∷ pos 4 ∷ pos 3 ∷ pos 1 ∷ pos 10000 ∷ nothing_more)
+    ++ (pos 8 ∷ pos 2 ∷ pos 0 ∷ pos 0 ∷ pos 0 ∷ nothing_more)
     ++ (pos 9 ∷ pos 5937 ∷ pos 5951 ∷ pos 6043 ∷ pos 6067 ∷ pos 6800 ∷ pos 40300 ∷ pos 0 ∷ pos 0 ∷ pos 0 ∷ pos 0 ∷ [])
-    ++ (pos 10 ∷ pos 2 ∷ pos 0 ∷ pos 0 ∷ pos 0 ∷ nothingMore)
+    ++ (pos 10 ∷ pos 2 ∷ pos 0 ∷ pos 0 ∷ pos 0 ∷ nothing_more)
     ++ (pos 4 ∷ [])
 
-pub example-entries : entriesOf example
-    ≡ asks (open-line (pos 4) (pos 3) (pos 1) (pos 10000))
+pub example_entries : entries_of example
+    ≡ asks (open_line (pos 4) (pos 3) (pos 1) (pos 10000))
     ∷ asks (station (pos 4687) (pos 4787) ((pos 1571 ∷ pos 1197 ∷ pos 1384 ∷ pos 6171 ∷ []) ∷ (pos 739 ∷ pos 363 ∷ pos 551 ∷ pos 5239 ∷ []) ∷ []))
-    ∷ asks (close-line (pos 2) (negsuc 0)) ∷ asks (open-spur (pos 4) (pos 3) (pos 1) (pos 10000)) ∷ asks (close-spur (pos 2))
+    ∷ asks (close_line (pos 2) (negsuc 0)) ∷ asks (open_spur (pos 4) (pos 3) (pos 1) (pos 10000)) ∷ asks (close_spur (pos 2))
     ∷ asks (collimation (pos 5937 ∷ pos 5951 ∷ pos 6043 ∷ pos 6067 ∷ pos 6800 ∷ pos 40300 ∷ [])) ∷ refused 1 ∷ refused 1 ∷ []
-unfolding firstEntries firstEntry kind_of
-example-entries = refl
+unfolding first_entries first_entry kind_of
+example_entries = refl
 
-pub example-written : (written {A = ℕ} (1 ∷ 2 ∷ 3 ∷ []) (7 ∷ 8 ∷ []) ≡ 1 ∷ 2 ∷ []) × (written {A = ℕ} (1 ∷ []) (7 ∷ 8 ∷ []) ≡ 1 ∷ 8 ∷ [])
-example-written = (refl, refl)
+pub example_written : (written {A = ℕ} (1 ∷ 2 ∷ 3 ∷ []) (7 ∷ 8 ∷ []) ≡ 1 ∷ 2 ∷ []) × (written {A = ℕ} (1 ∷ []) (7 ∷ 8 ∷ []) ≡ 1 ∷ 8 ∷ [])
+example_written = (refl, refl)

@@ -2,7 +2,7 @@
 ghost use Rattle.std.specs.Prelude.{◌≡◌, ◌≤◌};
 ghost use Rattle.std.proofs.lemmas.List.Edits.{sets};
 ghost use Rattle.numbers.specs.Numbers.{written};
-ghost use Rattle.runner.specs.Figures.{summaryOf, headFigures, pointFigures, bookFigures};
+ghost use Rattle.runner.specs.Figures.{summary_of, head_figures, point_figures, book_figures};
 
 use adjust::{Point, Summary};
 use book::{CloseAnswer, calls};
@@ -22,7 +22,7 @@ fn put(figures: &[i64], list: &mut [i64], at: usize)
 }
 
 fn summary_of(a: CloseAnswer) -> Summary
-    ensures { result ≡ summaryOf a }
+    ensures { result ≡ summary_of a }
 {
     match a {
         CloseAnswer::Closed(summary) => summary,
@@ -38,7 +38,7 @@ fn summary_of(a: CloseAnswer) -> Summary
 
 fn head_of(s: Summary, run: Run, sections: usize) -> [i64; 10]
     requires { (s.count ≤ 64) × (run.count ≤ 200) × (sections ≤ 64) }
-    ensures { result ≡ headFigures s run sections }
+    ensures { result ≡ head_figures s run sections }
 {
     let count = s.count as i64;
     let verdict = s.verdict as i64;
@@ -59,7 +59,7 @@ fn head_of(s: Summary, run: Run, sections: usize) -> [i64; 10]
 }
 
 fn put_points(points: [Point; 65], list: &mut [i64])
-    ensures { list.new ≡ sets list.old 10 (pointFigures points) }
+    ensures { list.new ≡ sets list.old 10 (point_figures points) }
 {
     for k in 0..65 {
         let point = points[k];
@@ -71,7 +71,7 @@ fn put_points(points: [Point; 65], list: &mut [i64])
 // The figures of a book into the lent list, as far as it has places.
 pub(crate) fn put_book(b: Book, list: &mut [i64])
     requires { (b.line.present.count ≤ 200) × (b.sections.count ≤ 64) }
-    ensures { list.new ≡ written (bookFigures b) list.old }
+    ensures { list.new ≡ written (book_figures b) list.old }
 {
     let closed = calls::figures_of(b);
     let answer = closed.answer;

@@ -3,12 +3,12 @@
 
 ghost use Rattle.std.specs.Prelude.{◌≡◌, ◌+◌, ◌/◌, length, set};
 ghost use Rattle.numbers.specs.Numbers.{written};
-ghost use Rattle.rules.specs.LineState.{bookWith};
-ghost use Rattle.book.specs.Calls.{freshBook};
-ghost use Rattle.ledger.specs.Plain.{freshReading, plainState};
-ghost use Rattle.ledger.specs.Entries.{entryStep, entryRefusals, afterEntries};
-ghost use Rattle.runner.specs.Calls.{kind_of, firstEntry, entriesOf};
-ghost use Rattle.runner.specs.Figures.{bookFigures};
+ghost use Rattle.rules.specs.LineState.{book_with};
+ghost use Rattle.book.specs.Calls.{fresh_book};
+ghost use Rattle.ledger.specs.Plain.{fresh_reading, plain_state};
+ghost use Rattle.ledger.specs.Entries.{entry_step, entry_refusals, after_entries};
+ghost use Rattle.runner.specs.Calls.{kind_of, first_entry, entries_of};
+ghost use Rattle.runner.specs.Figures.{book_figures};
 
 use book::{Step, calls};
 use records::{Kind, Tag};
@@ -48,9 +48,9 @@ fn copy_ten(list: &[i64]) -> [i64; 10]
 }
 
 // The first entry of a list, taken of the book.
-#[tactic(auto, unfolding(crate::specs::Calls::firstEntry))]
+#[tactic(auto, unfolding(crate::specs::Calls::first_entry))]
 fn take_first(b: Book, list: &[i64]) -> Step
-    ensures { result ≡ entryStep b (firstEntry list.now) }
+    ensures { result ≡ entry_step b (first_entry list.now) }
 {
     if list.len() < 11 {
         return Step { number: 1, book: b };
@@ -83,8 +83,8 @@ fn put_number(numbers: &mut [u8], k: usize, number: u8)
 
 // The entries one after another, the first on a fresh book. Each entry's number goes into its place of the lent list, where there is one.
 pub fn run_calls(calls: &[i64], numbers: &mut [u8]) -> Book
-    ensures { (result ≡ bookWith freshBook (plainState (afterEntries freshReading (entriesOf calls.now))))
-        × (numbers.new ≡ written (entryRefusals freshReading (entriesOf calls.now)) numbers.old) }
+    ensures { (result ≡ book_with fresh_book (plain_state (after_entries fresh_reading (entries_of calls.now))))
+        × (numbers.new ≡ written (entry_refusals fresh_reading (entries_of calls.now)) numbers.old) }
 {
     let n = entry_count(calls);
     let mut b = book::fresh();
@@ -100,10 +100,10 @@ pub fn run_calls(calls: &[i64], numbers: &mut [u8]) -> Book
 // The same in the form in which it is exported: the figures of the book that the entries leave go into the second lent list,
 // as far as it has places. The answer is how many entries there are, whether or not their numbers had places.
 pub fn level_run(calls: &[i64], numbers: &mut [u8], figures: &mut [i64]) -> usize
-    ensures { (result ≡ length (entriesOf calls.now))
-        × ((numbers.new ≡ written (entryRefusals freshReading (entriesOf calls.now)) numbers.old)
+    ensures { (result ≡ length (entries_of calls.now))
+        × ((numbers.new ≡ written (entry_refusals fresh_reading (entries_of calls.now)) numbers.old)
         × (figures.new
-        ≡ written (bookFigures (bookWith freshBook (plainState (afterEntries freshReading (entriesOf calls.now))))) figures.old)) }
+        ≡ written (book_figures (book_with fresh_book (plain_state (after_entries fresh_reading (entries_of calls.now))))) figures.old)) }
 {
     let b = run_calls(calls, numbers);
     figures::put_book(b, figures);

@@ -6,7 +6,7 @@ ghost use Rattle.std.specs.Prelude.{◌≡◌, true, cond, ◌&&◌, ◌+◌, �
 ghost use Rattle.numbers.specs.Numbers.{within};
 ghost use Rattle.numbers.specs.Tables.{first_of};
 ghost use Rattle.station.specs.code.Bounds.{SmallSighting, Small, SmallReadings};
-ghost use Rattle.station.specs.Station.{staffOf, stationOf, sightingOf, twiceHeight, figuresOf, readingsInRange, threadsInOrder, constantsPaired, readingRefusal, Reads, scaleOf, constantOf, sightLimit, limitsOf, limitTests};
+ghost use Rattle.station.specs.Station.{staff_of, station_of, sighting_of, twice_height, figures_of, readings_in_range, threads_in_order, constants_paired, reading_refusal, Reads, scale_of, constant_of, sight_limit, limits_of, limit_tests};
 
 use roots::limits::magnitude;
 
@@ -71,7 +71,7 @@ pub fn pick(t: bool, code: u8, rest: u8) -> u8
 }
 
 fn in_range(t: [i64; 4]) -> bool
-    ensures { result ≡ readingsInRange (staffOf (pos 0) t) }
+    ensures { result ≡ readings_in_range (staff_of (pos 0) t) }
 {
     ((0 <= t[0]) & (t[0] <= 3000))
         & ((0 <= t[1]) & (t[1] <= 3000))
@@ -80,20 +80,20 @@ fn in_range(t: [i64; 4]) -> bool
 }
 
 fn in_order(t: [i64; 4]) -> bool
-    ensures { result ≡ threadsInOrder (staffOf (pos 0) t) }
+    ensures { result ≡ threads_in_order (staff_of (pos 0) t) }
 {
     (t[1] < t[2]) & (t[2] < t[0])
 }
 
 fn paired(kb: i64, kf: i64, readings: [[i64; 4]; 2]) -> bool
-    ensures { result ≡ constantsPaired (stationOf kb kf readings) }
+    ensures { result ≡ constants_paired (station_of kb kf readings) }
 {
     ((kb == 4687) & (kf == 4787)) | ((kb == 4787) & (kf == 4687))
 }
 
 // The refusal that the readings and constants alone cause: 6, 7 or 8, or 0.
 fn reading_refusal(kb: i64, kf: i64, readings: [[i64; 4]; 2]) -> u8
-    ensures { result ≡ readingRefusal kb kf readings }
+    ensures { result ≡ reading_refusal kb kf readings }
 {
     let back = readings[0];
     let fore = readings[1];
@@ -104,7 +104,7 @@ fn reading_refusal(kb: i64, kf: i64, readings: [[i64; 4]; 2]) -> u8
 
 // The parts of a millimetre in which the constants are given: 1 or 10.
 pub fn scale_of(staffs: Staffs) -> u64
-    ensures { result ≡ scaleOf staffs }
+    ensures { result ≡ scale_of staffs }
 {
     match staffs {
         Staffs::Nominal => 1,
@@ -114,7 +114,7 @@ pub fn scale_of(staffs: Staffs) -> u64
 
 // The constant of the staff with the nominal one k.
 fn constant_of(staffs: Staffs, k: i64) -> i64
-    ensures value { result ≡ constantOf staffs k }
+    ensures value { result ≡ constant_of staffs k }
     ensures result_bound { nat_abs k ≤ 65535 → nat_abs result ≤ 65535 }
 {
     match staffs {
@@ -131,8 +131,8 @@ fn constant_of(staffs: Staffs, k: i64) -> i64
 
 // The sight and face difference of a staff with the nominal constant k.
 fn sighting_of(staffs: Staffs, k: i64, t: [i64; 4]) -> Sighting
-    requires { (nat_abs k ≤ 4787) × (readingsInRange (staffOf k t) ≡ true) }
-    ensures value { result ≡ sightingOf staffs (staffOf k t) }
+    requires { (nat_abs k ≤ 4787) × (readings_in_range (staff_of k t) ≡ true) }
+    ensures value { result ≡ sighting_of staffs (staff_of k t) }
     ensures small_sighting { SmallSighting result }
 {
     let scale = scale_of(staffs) as i64;
@@ -144,8 +144,8 @@ fn sighting_of(staffs: Staffs, k: i64, t: [i64; 4]) -> Sighting
 
 // Twice the height of a station, from its middle readings.
 fn twice_height(staffs: Staffs, kb: i64, kf: i64, readings: [[i64; 4]; 2]) -> i64
-    requires { readingRefusal kb kf readings ≡ 0 }
-    ensures value { result ≡ twiceHeight staffs (stationOf kb kf readings) }
+    requires { reading_refusal kb kf readings ≡ 0 }
+    ensures value { result ≡ twice_height staffs (station_of kb kf readings) }
     ensures result_bound { nat_abs result ≤ 351050 }
 {
     let back = readings[0];
@@ -156,8 +156,8 @@ fn twice_height(staffs: Staffs, kb: i64, kf: i64, readings: [[i64; 4]; 2]) -> i6
 }
 
 fn computed(staffs: Staffs, kb: i64, kf: i64, readings: [[i64; 4]; 2]) -> Figures
-    requires { readingRefusal kb kf readings ≡ 0 }
-    ensures value { result ≡ figuresOf staffs (stationOf kb kf readings) }
+    requires { reading_refusal kb kf readings ≡ 0 }
+    ensures value { result ≡ figures_of staffs (station_of kb kf readings) }
     ensures small { Small result }
 {
     let height = twice_height(staffs, kb, kf, readings);
@@ -185,7 +185,7 @@ pub fn read(staffs: Staffs, kb: i64, kf: i64, readings: [[i64; 4]; 2]) -> Readin
 }
 
 fn sight_limit(order: Order, instrument: Instrument) -> u64
-    ensures { result ≡ sightLimit order instrument }
+    ensures { result ≡ sight_limit order instrument }
 {
     match order {
         Order::Third => match instrument {
@@ -200,7 +200,7 @@ fn sight_limit(order: Order, instrument: Instrument) -> u64
 }
 
 fn limits_of(order: Order, instrument: Instrument, staffs: Staffs) -> Limits
-    ensures { result ≡ limitsOf order instrument staffs }
+    ensures { result ≡ limits_of order instrument staffs }
 {
     let sight = sight_limit(order, instrument);
     let scale = scale_of(staffs);
@@ -274,7 +274,7 @@ pub fn judge(
     accumulated: i64,
     f: Figures,
 ) -> u8
-    ensures { result ≡ first_of (limitTests (limitsOf order instrument staffs) accumulated f) }
+    ensures { result ≡ first_of (limit_tests (limits_of order instrument staffs) accumulated f) }
 {
     let l = limits_of(order, instrument, staffs);
     let faces = pick(!difference_within(f.back.face, f.fore.face, l.faces), 28, 0);

@@ -8,65 +8,65 @@ use borrow.Author.Tests.{le-ltb, ltb-true, ltb-false}
 use lib.Dec.{eqb}
 use lib.ListN.{length, replicate}
 use Rattle.numbers.specs.Numbers.{filled}
-use Rattle.numbers.proofs.Tests.{by-test, is_true, is_false}
+use Rattle.numbers.proofs.Tests.{by_test, is_true, is_false}
 use Rattle.numbers.proofs.Arrays.{written_none}
 use Rattle.columns.specs.Decimals.{same}
-use Rattle.columns.specs.Lines.{lineWith, heading}
+use Rattle.columns.specs.Lines.{line_with, heading}
 use Rattle.columns.specs.Texts.{lines}
 use Rattle.columns.proofs.Texts.{lines_next, lines_end}
 use Rattle.textbook.specs.declared.text.State.{State}
-use Rattle.textbook.specs.Text.{Refusal, mostText, tooLong, refusalsFrom}
-use Rattle.textbook.specs.code.State.{textFrom, line_at, afterHeading, unread, textState, refusedText, textRead}
+use Rattle.textbook.specs.Text.{Refusal, most_text, too_long, refusals_from}
+use Rattle.textbook.specs.code.State.{text_from, line_at, after_heading, unread, text_state, refused_text, text_read}
 
 -- ---- the first line
 
 -- what is read, by whether the first line is the heading
-abbrev readOr : Bool → List ℕ → State
-readOr b t = cond b (afterHeading (lines (textFrom t 2))) unread
+abbrev read_or : Bool → List ℕ → State
+read_or b t = cond b (after_heading (lines (text_from t 2))) unread
 
-first-line : (t : List ℕ) → readOr (same (line_at t 1) heading) t ≡ textState (lines t)
-unfolding same heading lineWith
-first-line [] = ap textState (sym (lines_end [] 0 (omega arith)))
-first-line (b ∷ t) = ap textState (sym (lines_next (b ∷ t) 0 (omega arith)))
+first_line : (t : List ℕ) → read_or (same (line_at t 1) heading) t ≡ text_state (lines t)
+unfolding same heading line_with
+first_line [] = ap text_state (sym (lines_end [] 0 (omega arith)))
+first_line (b ∷ t) = ap text_state (sym (lines_next (b ∷ t) 0 (omega arith)))
 
 -- with the heading, and without it
 module _ (t : List ℕ) where
-  pub with_heading : same (line_at t 1) heading ≡ true → afterHeading (lines (textFrom t 2)) ≡ textState (lines t)
-  with_heading e = ap (λ (b : Bool). readOr b t) (sym e) ∙ first-line t
+  pub with_heading : same (line_at t 1) heading ≡ true → after_heading (lines (text_from t 2)) ≡ text_state (lines t)
+  with_heading e = ap (λ (b : Bool). read_or b t) (sym e) ∙ first_line t
 
-  pub without_heading : same (line_at t 1) heading ≡ false → unread ≡ textState (lines t)
-  without_heading e = ap (λ (b : Bool). readOr b t) (sym e) ∙ first-line t
+  pub without_heading : same (line_at t 1) heading ≡ false → unread ≡ text_state (lines t)
+  without_heading e = ap (λ (b : Bool). read_or b t) (sym e) ∙ first_line t
 
 -- ---- too long a text, and one that is not
 
 module _ (t : List ℕ) where
-  pub read_short : length t ≤ mostText → textRead t ≡ record { number = 0; state = textState (lines t) }
-  read_short h = rw (le-ltb mostText (length t) h)
+  pub read_short : length t ≤ most_text → text_read t ≡ record { number = 0; state = text_state (lines t) }
+  read_short h = rw (le-ltb most_text (length t) h)
 
   -- the other way round, from the number
-  abbrev numberBy : Bool → ℕ
-  numberBy b = (cond b refusedText (record { number = 0; state = textState (lines t) })).number
+  abbrev number_by : Bool → ℕ
+  number_by b = (cond b refused_text (record { number = 0; state = text_state (lines t) })).number
 
-  pub long-read : 0 < (textRead t).number → (mostText < length t) × ((textRead t).number ≡ 9)
-  long-read =
-      by-test (tooLong t) (λ b. 0 < numberBy b → (mostText < length t) × (numberBy b ≡ 9)) (λ long h. (ltb-true mostText (length t) (is_true long), refl))
+  pub long_read : 0 < (text_read t).number → (most_text < length t) × ((text_read t).number ≡ 9)
+  long_read =
+      by_test (too_long t) (λ b. 0 < number_by b → (most_text < length t) × (number_by b ≡ 9)) (λ long h. (ltb-true most_text (length t) (is_true long), refl))
       (λ short h. absurd (omega arith))
 
-  pub short-read : (textRead t).number ≡ 0 → length t ≤ mostText
-  short-read =
-      by-test (tooLong t) (λ b. numberBy b ≡ 0 → length t ≤ mostText) (λ long e. absurd (omega arith)) (λ short e. ltb-false mostText (length t) (is_false short))
+  pub short_read : (text_read t).number ≡ 0 → length t ≤ most_text
+  short_read =
+      by_test (too_long t) (λ b. number_by b ≡ 0 → length t ≤ most_text) (λ long e. absurd (omega arith)) (λ short e. ltb-false most_text (length t) (is_false short))
 
 -- ---- the refusals among the numbers
 
-no-refusals : (k n : ℕ) → refusalsFrom k (replicate n 0) ≡ []
-unfolding refusalsFrom
-no-refusals k zero = refl
-no-refusals k (suc n) = no-refusals (suc k) n
+no_refusals : (k n : ℕ) → refusals_from k (replicate n 0) ≡ []
+unfolding refusals_from
+no_refusals k zero = refl
+no_refusals k (suc n) = no_refusals (suc k) n
 
 -- zeros behind the numbers are no refusals
-pub refusals-filled : (k n : ℕ) (ns : List ℕ) → length ns ≤ n → refusalsFrom k (filled 0 n ns) ≡ refusalsFrom k ns
-unfolding refusalsFrom
-refusals-filled k n [] h = ap (refusalsFrom k) (written_none (replicate n 0)) ∙ no-refusals k n
-refusals-filled k zero (x ∷ ns) h = absurd (omega arith)
-refusals-filled k (suc n) (x ∷ ns) h =
-    ap (λ (xs : List Refusal). cond (eqb x 0) [] (record { line = k; number = x } ∷ []) ++ xs) (refusals-filled (suc k) n ns (omega arith))
+pub refusals_filled : (k n : ℕ) (ns : List ℕ) → length ns ≤ n → refusals_from k (filled 0 n ns) ≡ refusals_from k ns
+unfolding refusals_from
+refusals_filled k n [] h = ap (refusals_from k) (written_none (replicate n 0)) ∙ no_refusals k n
+refusals_filled k zero (x ∷ ns) h = absurd (omega arith)
+refusals_filled k (suc n) (x ∷ ns) h =
+    ap (λ (xs : List Refusal). cond (eqb x 0) [] (record { line = k; number = x } ∷ []) ++ xs) (refusals_filled (suc k) n ns (omega arith))

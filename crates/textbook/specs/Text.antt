@@ -1,33 +1,33 @@
 -- The text book, read over the plain reading: what a line of it means is told by its record (document 01, 'The text book and the report').
 use Rattle.std.specs.Prelude.{Bool, cond, List, [], ◌∷◌, ◌++◌, map, ℕ, suc, length, eqb, ltb}
-use Rattle.columns.specs.Records.{lineIn}
+use Rattle.columns.specs.Records.{line_in}
 use Rattle.rules.specs.Rules.{Call}
 use Rattle.ledger.specs.Plain.{Reading}
 use Rattle.ledger.specs.Entries as Entries
-use Rattle.ledger.specs.Entries.{Entry, entry_of, entryRefusals, afterEntries}
+use Rattle.ledger.specs.Entries.{Entry, entry_of, entry_refusals, after_entries}
 
 -- the bytes of the longest text: 777 lines of 84
-abbrev pub mostText : ℕ
-mostText = 65268
+abbrev pub most_text : ℕ
+most_text = 65268
 
-abbrev pub tooLong : List ℕ → Bool
-tooLong text = ltb mostText (length text)
+abbrev pub too_long : List ℕ → Bool
+too_long text = ltb most_text (length text)
 
 -- ---- the lines after the first
 
 -- what a line asks for: its record's call, or none where it is refused with 1 or 2
-abbrev pub lineEntry : List ℕ → Entry
-lineEntry l = entry_of (lineIn l).kind (lineIn l).values
+abbrev pub line_entry : List ℕ → Entry
+line_entry l = entry_of (line_in l).kind (line_in l).values
 
 abbrev pub entries : List (List ℕ) → List Entry
-entries ls = map lineEntry ls
+entries ls = map line_entry ls
 
 -- the refusal number of each line, 0 where its call is taken
-abbrev pub lineRefusals : Reading → List (List ℕ) → List ℕ
-lineRefusals r ls = entryRefusals r (entries ls)
+abbrev pub line_refusals : Reading → List (List ℕ) → List ℕ
+line_refusals r ls = entry_refusals r (entries ls)
 
-abbrev pub readingAfter : Reading → List (List ℕ) → Reading
-readingAfter r ls = afterEntries r (entries ls)
+abbrev pub reading_after : Reading → List (List ℕ) → Reading
+reading_after r ls = after_entries r (entries ls)
 
 -- the calls of the lines, to which the claims about lists of calls apply
 abbrev pub calls_of : List (List ℕ) → List Call
@@ -41,6 +41,6 @@ pub record Refusal : Type 0 where
   pub number : ℕ
 
 -- the refusals among the numbers of lines from line k on, in order
-unfoldable pub refusalsFrom : ℕ → List ℕ → List Refusal
-refusalsFrom k [] = []
-refusalsFrom k (n ∷ ns) = cond (eqb n 0) [] (record { line = k; number = n } ∷ []) ++ refusalsFrom (suc k) ns
+unfoldable pub refusals_from : ℕ → List ℕ → List Refusal
+refusals_from k [] = []
+refusals_from k (n ∷ ns) = cond (eqb n 0) [] (record { line = k; number = n } ∷ []) ++ refusals_from (suc k) ns

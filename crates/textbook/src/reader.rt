@@ -1,7 +1,7 @@
 // A text book read by a reader that holds the lent text. What is read from a line on is in `text`.
 ghost use Rattle.std.specs.Prelude.{◌≡◌};
 ghost use Rattle.columns.specs.Texts.{lines};
-ghost use Rattle.textbook.specs.code.State.{textFrom, textState, textRead};
+ghost use Rattle.textbook.specs.code.State.{text_from, text_state, text_read};
 
 use super::text::{State, read_from};
 
@@ -28,21 +28,21 @@ fn start<'a>(text: &'a [u8]) -> Reader<'a>
 
 // What the text leaves from that line on.
 fn read_rest<'a>(r: Reader<'a>) -> State
-    ensures { result ≡ textState (lines (textFrom r.entry.text.now r.entry.line)) }
+    ensures { result ≡ text_state (lines (text_from r.entry.text.now r.entry.line)) }
 {
     read_from(r.text, r.line)
 }
 
 // The same from line 1 on.
 fn read_all(text: &[u8]) -> State
-    ensures { result ≡ textState (lines text.now) }
+    ensures { result ≡ text_state (lines text.now) }
 {
     read_rest(start(text))
 }
 
 // What a text leaves: the plain reading of its lines. Of a text that is too long no line is read.
 pub fn read_text(text: &[u8]) -> TextRead
-    ensures { result ≡ textRead text.now }
+    ensures { result ≡ text_read text.now }
 {
     if 65268 < text.len() {
         let book = book::fresh();

@@ -1,10 +1,10 @@
 // A text read line by line into a book and the refusals of its lines, which are written where they are.
 ghost use Rattle.std.specs.Prelude.{◌≡◌, length, set};
-ghost use Rattle.rules.specs.LineState.{bookIn};
+ghost use Rattle.rules.specs.LineState.{book_in};
 ghost use Rattle.columns.specs.Texts.{lines};
-ghost use Rattle.ledger.specs.Entries.{entryStep};
-ghost use Rattle.textbook.specs.Text.{lineEntry};
-ghost use Rattle.textbook.specs.code.State.{textFrom, line_at, lineCount, afterHeading, unread, textState};
+ghost use Rattle.ledger.specs.Entries.{entry_step};
+ghost use Rattle.textbook.specs.Text.{line_entry};
+ghost use Rattle.textbook.specs.code.State.{text_from, line_at, line_count, after_heading, unread, text_state};
 
 use adjust::Sections;
 use changes::decisions::decide;
@@ -31,7 +31,7 @@ struct Taken {
 
 // The text from line `number` on, counted from 1; no bytes where it has no such line.
 fn text_from<'a>(text: &'a [u8], number: usize) -> &'a [u8]
-    ensures { result.now ≡ textFrom text.now number }
+    ensures { result.now ≡ text_from text.now number }
 {
     if number == 0 {
         return &text[0..0];
@@ -57,7 +57,7 @@ fn line_at<'a>(text: &'a [u8], number: usize) -> &'a [u8]
 
 // How many lines a text of n bytes has.
 fn count_lines(n: usize) -> usize
-    ensures { result ≡ lineCount n }
+    ensures { result ≡ line_count n }
 {
     let whole = n / 84;
     if n % 84 == 0 { whole } else { whole + 1 }
@@ -83,8 +83,8 @@ fn take_line(
     bytes: &[u8],
 ) -> Taken
     requires { (length numbers.old ≡ 64) × ((length heights.old ≡ 64) × ((length distances.old ≡ 64) × (length discrepancies.old ≡ 64))) }
-    ensures { record { number = result.code; book = bookIn result.line result.count numbers.new heights.new distances.new discrepancies.new }
-        ≡ entryStep (bookIn line count numbers.old heights.old distances.old discrepancies.old) (lineEntry bytes.now) }
+    ensures { record { number = result.code; book = book_in result.line result.count numbers.new heights.new distances.new discrepancies.new }
+        ≡ entry_step (book_in line count numbers.old heights.old distances.old discrepancies.old) (line_entry bytes.now) }
 {
     let parsed = parse_line(bytes);
     let kind = parsed.kind;
@@ -112,7 +112,7 @@ fn take_line(
 
 // The lines after the heading, one after the other. The book is put together when all are taken.
 fn read_lines(text: &[u8]) -> State
-    ensures { result ≡ afterHeading (lines (textFrom text.now 2)) }
+    ensures { result ≡ after_heading (lines (text_from text.now 2)) }
 {
     let mut line = book::fresh().line;
     let mut count = 0;
@@ -162,7 +162,7 @@ fn unread_state() -> State
 // What is left of a text from line `first` on, read as a text of its own: that line is its heading.
 #[tactic(auto, using(crate::proofs::Lines::with_heading, crate::proofs::Lines::without_heading))]
 pub(crate) fn read_from(text: &[u8], first: usize) -> State
-    ensures { result ≡ textState (lines (textFrom text.now first)) }
+    ensures { result ≡ text_state (lines (text_from text.now first)) }
 {
     let book = text_from(text, first);
     if is_heading(line_at(book, 1)) {

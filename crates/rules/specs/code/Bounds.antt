@@ -3,13 +3,13 @@ use Rattle.std.specs.Prelude.{◌≤◌, nat_abs}
 use Rattle.rules.specs.declared.Run.{Run}
 use Rattle.rules.specs.declared.Waiting.{Waiting}
 use Rattle.rules.specs.declared.Waiting.TheVariants.{Nothing, Outward}
-use Rattle.rules.specs.LineState.{mostG, mostS, mostDifference}
+use Rattle.rules.specs.LineState.{most_g, most_s, most_difference}
 
 pub record SmallRun (u : Run) : Type 0 where
   pub count : u.count ≤ 200
-  pub height : nat_abs u.height ≤ mostG
-  pub sights : nat_abs u.sights ≤ mostS
-  pub difference : nat_abs u.difference ≤ mostDifference
+  pub height : nat_abs u.height ≤ most_g
+  pub sights : nat_abs u.sights ≤ most_s
+  pub difference : nat_abs u.difference ≤ most_difference
 
 -- what waits and the present run
 abbrev pub SmallRuns : Waiting → Run → Type 0

@@ -2,7 +2,7 @@
 use Rattle.std.specs.Prelude.{Bool, false, ◌∷◌, ◌++◌, ℕ, ℤ}
 use Rattle.numbers.specs.Tables.{first_of}
 use Rattle.rules.specs.LineState.{LineState}
-use Rattle.rules.specs.Rules.{openTests, openState, brokenIn}
+use Rattle.rules.specs.Rules.{open_tests, open_state, broken_in}
 
-abbrev pub openRefusal : LineState → Bool → ℤ → ℤ → ℤ → ℕ
-openRefusal v ordered instrument number height = first_of (openTests ordered instrument number height ++ ((20, brokenIn false v) ∷ openState v))
+abbrev pub open_refusal : LineState → Bool → ℤ → ℤ → ℤ → ℕ
+open_refusal v ordered instrument number height = first_of (open_tests ordered instrument number height ++ ((20, broken_in false v) ∷ open_state v))

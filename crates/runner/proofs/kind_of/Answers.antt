@@ -6,17 +6,17 @@ use Rattle.std.proofs.Common.{arith}
 use lib.IntN.{ℤ, pos}
 use mir.Syntax.{w64}
 use mir.Val.{SFits, of_z, to_z}
-use Rattle.numbers.specs.Numbers.{eqZ}
-use Rattle.numbers.proofs.Machine.{stored-id}
-use Rattle.numbers.proofs.Equal.{eqZ-ne}
+use Rattle.numbers.specs.Numbers.{eq_z}
+use Rattle.numbers.proofs.Machine.{stored_id}
+use Rattle.numbers.proofs.Equal.{eq_z_ne}
 use Rattle.runner.specs.Calls.{kind_of}
 use Rattle.runner.proofs.kind_of.Goals as goal
 
 case : {z : ℤ} (n : ℕ) → SFits w64 z → of_z w64 z ≡ n → kind_of (to_z w64 n) ≡ kind_of z
-case n f e = ap kind_of (ap (to_z w64) (sym e) ∙ stored-id f)
+case n f e = ap kind_of (ap (to_z w64) (sym e) ∙ stored_id f)
 
-none : (z : ℤ) (n : ℕ) → (of_z w64 z ≡ n → ⊥) → eqZ z (pos n) ≡ false
-none z n f = eqZ-ne z (pos n) (λ e. f (ap (of_z w64) e))
+none : (z : ℤ) (n : ℕ) → (of_z w64 z ≡ n → ⊥) → eq_z z (pos n) ≡ false
+none z n f = eq_z_ne z (pos n) (λ e. f (ap (of_z w64) e))
 
 pub returns-in-1 : goal.returns-in-1
 unfolding kind_of

@@ -2,16 +2,16 @@
 -- numbers of all.
 use mathlib.Core.Path.{◌≡◌}
 use lib.Seq.{sets}
-use Rattle.ledger.specs.Plain.{Reading, freshReading, plainState}
-use Rattle.ledger.specs.Entries.{entryRefusals, afterEntries}
+use Rattle.ledger.specs.Plain.{Reading, fresh_reading, plain_state}
+use Rattle.ledger.specs.Entries.{entry_refusals, after_entries}
 use Rattle.ledger.proofs.Kept.{Kept}
-use Rattle.ledger.proofs.Again.{bookOf}
-use Rattle.runner.specs.Calls.{entriesOf}
+use Rattle.ledger.proofs.Again.{book_of}
+use Rattle.runner.specs.Calls.{entries_of}
 use Rattle.runner.proofs.Laws.{left}
 use Rattle.runner.proofs.run_calls.Given as goal
 
 abbrev pub invariant-loop-k : goal.invariant-loop-k
 invariant-loop-k l =
-    (r : Reading) × Kept (plainState r) × (l.b ≡ bookOf r)
-    × (afterEntries r (left l.n l.k l.calls) ≡ afterEntries freshReading (entriesOf l.calls))
-    × (sets l.numbers l.k (entryRefusals r (left l.n l.k l.calls)) ≡ sets l.initial.numbers 0 (entryRefusals freshReading (entriesOf l.calls)))
+    (r : Reading) × Kept (plain_state r) × (l.b ≡ book_of r)
+    × (after_entries r (left l.n l.k l.calls) ≡ after_entries fresh_reading (entries_of l.calls))
+    × (sets l.numbers l.k (entry_refusals r (left l.n l.k l.calls)) ≡ sets l.initial.numbers 0 (entry_refusals fresh_reading (entries_of l.calls)))

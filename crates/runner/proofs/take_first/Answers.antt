@@ -7,18 +7,18 @@ use mir.Syntax.{w64}
 use mir.Val.{SFits}
 use borrow.Author.Tests.{le-leb}
 use Rattle.records.specs.declared.Kind.{Kind}
-use Rattle.numbers.proofs.Machine.{stored, stored-id}
+use Rattle.numbers.proofs.Machine.{stored, stored_id}
 use Rattle.rules.specs.Records.{call_of}
 use Rattle.book.specs.Calls.{step_of}
-use Rattle.ledger.specs.Entries.{entry_of, entryStep}
-use Rattle.runner.specs.Calls.{kind_of, firstEntry}
+use Rattle.ledger.specs.Entries.{entry_of, entry_step}
+use Rattle.runner.specs.Calls.{kind_of, first_entry}
 use Rattle.runner.proofs.take_first.Goals as goal
 
 -- the entry of the kind that was found
 found : (xs : List ℤ) {r k : Kind} → 11 ≤ length xs → SFits w64 (get_or xs 0 (pos 0)) → r ≡ kind_of (stored (get_or xs 0 (pos 0))) → r ≡ k
-    → entry_of k (take 10 (drop 1 xs)) ≡ firstEntry xs
-unfolding firstEntry
-found xs long f told e = rw (le-leb 11 _ long) (ap (λ (k : Kind). entry_of k (take 10 (drop 1 xs))) (sym e ∙ told ∙ ap kind_of (stored-id f)))
+    → entry_of k (take 10 (drop 1 xs)) ≡ first_entry xs
+unfolding first_entry
+found xs long f told e = rw (le-leb 11 _ long) (ap (λ (k : Kind). entry_of k (take 10 (drop 1 xs))) (sym e ∙ told ∙ ap kind_of (stored_id f)))
 
 pub returns-in-Record : goal.returns-in-Record
 returns-in-Record c =
@@ -26,10 +26,10 @@ returns-in-Record c =
     let b = c.args.b in
     let fits : SFits w64 (get_or c.args.list.now 0 (pos 0)) = search rules in
     c.take.ensures ∙ (λ i. step_of b (call_of c.in-Record.tag (c.copy_ten.ensures i)))
-    ∙ ap (entryStep b) (found xs (omega arith) fits c.kind_of-kind.ensures c.in-Record.is)
+    ∙ ap (entry_step b) (found xs (omega arith) fits c.kind_of-kind.ensures c.in-Record.is)
 
 pub returns-in-Refused : goal.returns-in-Refused
 returns-in-Refused c =
     let xs = c.args.list.now in
     let fits : SFits w64 (get_or c.args.list.now 0 (pos 0)) = search rules in
-    ap (entryStep c.args.b) (found xs (omega arith) fits c.kind_of-kind.ensures c.in-Refused.is)
+    ap (entry_step c.args.b) (found xs (omega arith) fits c.kind_of-kind.ensures c.in-Refused.is)

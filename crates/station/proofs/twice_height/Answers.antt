@@ -4,8 +4,8 @@ use Rattle.numbers.proofs.Ring.{ringℤ}
 use Rattle.numbers.proofs.Machine.{stored}
 use Rattle.numbers.proofs.Chain.{Value, known, add, sub, mul, fits, kept}
 use Rattle.station.specs.declared.Staffs.{Staffs}
-use Rattle.station.specs.Station.{Station, scaleOf, constantOf, twiceHeight}
-use Rattle.station.proofs.Sizes.{Read, read, scale-value, constant-value, sized}
+use Rattle.station.specs.Station.{Station, scale_of, constant_of, twice_height}
+use Rattle.station.proofs.Sizes.{Read, read, scale_value, constant_value, sized}
 use Rattle.station.proofs.twice_height.Goals as goal
 
 in_parts : (n mb mf rb rf k : ℤ) → n *ℤ ((mb -ℤ mf) +ℤ (rb -ℤ rf)) -ℤ k ≡ (n *ℤ mb -ℤ n *ℤ mf) +ℤ (n *ℤ rb -ℤ n *ℤ rf) -ℤ k
@@ -19,31 +19,31 @@ module _ {x : Station} (h : Read x) where
   red = sub (known x.back.red h.back.red tt) (known x.fore.red h.fore.red tt)
 
   -- what the code adds, multiplies and takes away: n the scale, k the difference of the constants, as they are read back
-  abbrev facesOf : ℤ
-  facesOf = stored (stored x.back.black -ℤ stored x.fore.black) +ℤ stored (stored x.back.red -ℤ stored x.fore.red)
+  abbrev faces_of : ℤ
+  faces_of = stored (stored x.back.black -ℤ stored x.fore.black) +ℤ stored (stored x.back.red -ℤ stored x.fore.red)
 
   abbrev parts_of : ℤ → ℤ
-  parts_of n = n *ℤ stored facesOf
+  parts_of n = n *ℤ stored faces_of
 
-  faces : Value facesOf ((x.back.black -ℤ x.fore.black) +ℤ (x.back.red -ℤ x.fore.red)) 21998
+  faces : Value faces_of ((x.back.black -ℤ x.fore.black) +ℤ (x.back.red -ℤ x.fore.red)) 21998
   faces = add (kept black tt) (kept red tt)
 
-  module _ (c : Staffs) {n : ℤ} (scale : Value n (pos (scaleOf c)) 10) where
-    parts : Value (parts_of n) (pos (scaleOf c) *ℤ ((x.back.black -ℤ x.fore.black) +ℤ (x.back.red -ℤ x.fore.red))) 219980
+  module _ (c : Staffs) {n : ℤ} (scale : Value n (pos (scale_of c)) 10) where
+    parts : Value (parts_of n) (pos (scale_of c) *ℤ ((x.back.black -ℤ x.fore.black) +ℤ (x.back.red -ℤ x.fore.red))) 219980
     parts = mul scale (kept faces tt)
 
-    height : {k : ℤ} → Value k (constantOf c x.back.constant -ℤ constantOf c x.fore.constant) 131070
-        → Value (stored (parts_of n) -ℤ k) (twiceHeight c x) 351050
+    height : {k : ℤ} → Value k (constant_of c x.back.constant -ℤ constant_of c x.fore.constant) 131070
+        → Value (stored (parts_of n) -ℤ k) (twice_height c x) 351050
     height {k} constants =
         subst (λ (y : ℤ). Value (stored (parts_of n) -ℤ k) y 351050)
-        (in_parts (pos (scaleOf c)) x.back.black x.fore.black x.back.red x.fore.red (constantOf c x.back.constant -ℤ constantOf c x.fore.constant))
+        (in_parts (pos (scale_of c)) x.back.black x.fore.black x.back.red x.fore.red (constant_of c x.back.constant -ℤ constant_of c x.fore.constant))
         (sub (kept parts tt) constants)
 
 pub overflow_sub-constants : goal.overflow_sub-constants
 overflow_sub-constants c =
     let h = read c.args.kb c.args.kf c.args.readings c.requires in
-    let back = constant-value c.args.staffs c.args.kb c.ranges.kb h.back.constant c.constant_of.ensures.value c.constant_of.ensures.result_bound in
-    let fore = constant-value c.args.staffs c.args.kf c.ranges.kf h.fore.constant c.constant_of-2.ensures.value c.constant_of-2.ensures.result_bound in
+    let back = constant_value c.args.staffs c.args.kb c.ranges.kb h.back.constant c.constant_of.ensures.value c.constant_of.ensures.result_bound in
+    let fore = constant_value c.args.staffs c.args.kf c.ranges.kf h.fore.constant c.constant_of-2.ensures.value c.constant_of-2.ensures.result_bound in
     fits (sub back fore) tt
 
 pub overflow_sub-result : goal.overflow_sub-result
@@ -57,19 +57,19 @@ overflow_add-result c = fits (faces (read c.args.kb c.args.kf c.args.readings c.
 
 pub overflow_mul-result : goal.overflow_mul-result
 overflow_mul-result c =
-    fits (parts (read c.args.kb c.args.kf c.args.readings c.requires) c.args.staffs (scale-value c.args.staffs c.scale_of-scale.ensures)) tt
+    fits (parts (read c.args.kb c.args.kf c.args.readings c.requires) c.args.staffs (scale_value c.args.staffs c.scale_of-scale.ensures)) tt
 
 pub overflow_sub-result-3 : goal.overflow_sub-result-3
 overflow_sub-result-3 c =
     let h = read c.args.kb c.args.kf c.args.readings c.requires in
-    let back = constant-value c.args.staffs c.args.kb c.ranges.kb h.back.constant c.constant_of.ensures.value c.constant_of.ensures.result_bound in
-    let fore = constant-value c.args.staffs c.args.kf c.ranges.kf h.fore.constant c.constant_of-2.ensures.value c.constant_of-2.ensures.result_bound in
-    fits (height h c.args.staffs (scale-value c.args.staffs c.scale_of-scale.ensures) (kept (sub back fore) tt)) tt
+    let back = constant_value c.args.staffs c.args.kb c.ranges.kb h.back.constant c.constant_of.ensures.value c.constant_of.ensures.result_bound in
+    let fore = constant_value c.args.staffs c.args.kf c.ranges.kf h.fore.constant c.constant_of-2.ensures.value c.constant_of-2.ensures.result_bound in
+    fits (height h c.args.staffs (scale_value c.args.staffs c.scale_of-scale.ensures) (kept (sub back fore) tt)) tt
 
 pub returns : goal.returns
 returns c =
     let h = read c.args.kb c.args.kf c.args.readings c.requires in
-    let back = constant-value c.args.staffs c.args.kb c.ranges.kb h.back.constant c.constant_of.ensures.value c.constant_of.ensures.result_bound in
-    let fore = constant-value c.args.staffs c.args.kf c.ranges.kf h.fore.constant c.constant_of-2.ensures.value c.constant_of-2.ensures.result_bound in
-    let v = kept (height h c.args.staffs (scale-value c.args.staffs c.scale_of-scale.ensures) (kept (sub back fore) tt)) tt in
+    let back = constant_value c.args.staffs c.args.kb c.ranges.kb h.back.constant c.constant_of.ensures.value c.constant_of.ensures.result_bound in
+    let fore = constant_value c.args.staffs c.args.kf c.ranges.kf h.fore.constant c.constant_of-2.ensures.value c.constant_of-2.ensures.result_bound in
+    let v = kept (height h c.args.staffs (scale_value c.args.staffs c.scale_of-scale.ensures) (kept (sub back fore) tt)) tt in
     record { value = v.is; result_bound = sized v }

@@ -6,8 +6,8 @@ use Rattle.numbers.proofs.All.{All}
 use Rattle.adjust.specs.declared.Section.{Section}
 use Rattle.adjust.specs.declared.Sections.{Sections}
 use Rattle.adjust.specs.declared.accidental.Total.{Total}
-use Rattle.adjust.specs.Sizes.{mostT}
-use Rattle.adjust.specs.Sections.{sectionsOf, sectionFits}
+use Rattle.adjust.specs.Sizes.{most_t}
+use Rattle.adjust.specs.Sections.{sections_of, section_fits}
 use Rattle.adjust.specs.Line.{accidental}
 use Rattle.adjust.proofs.Lists.{remaining}
 use Rattle.adjust.proofs.accidental.squares_of.Given as goal
@@ -17,9 +17,9 @@ squares n xs = sum (map (accidental n) xs)
 
 -- before place k is visited
 pub record Going (n : ℕ) (s : Sections) (k : ℕ) (t : Total) : Type 0 where
-  pub small : nat_abs t.squares ≤ mostT * k
-  pub fit : All sectionFits (remaining s k)
-  pub whole : t.squares +ℤ squares n (remaining s k) ≡ squares n (sectionsOf s)
+  pub small : nat_abs t.squares ≤ most_t * k
+  pub fit : All section_fits (remaining s k)
+  pub whole : t.squares +ℤ squares n (remaining s k) ≡ squares n (sections_of s)
 
 abbrev pub invariant-loop-k : goal.invariant-loop-k
 invariant-loop-k l = Going (nat_abs l.squared) l.s l.k l.t

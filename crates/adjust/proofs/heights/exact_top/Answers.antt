@@ -4,36 +4,36 @@ use lib.IntN.{ℤ, nat_abs, ◌+ℤ◌, ◌-ℤ◌, ◌*ℤ◌}
 use Rattle.numbers.proofs.Machine.{stored}
 use Rattle.numbers.proofs.Chain.{Value, known, add, sub, mul, fits, kept}
 use Rattle.adjust.specs.declared.Frame.{Frame}
-use Rattle.adjust.specs.Sizes.{highest, mostUnits, mostSumQ, mostL, mostW}
+use Rattle.adjust.specs.Sizes.{highest, most_units, most_sum_q, most_l, most_w}
 use Rattle.adjust.specs.code.Bounds.{Framed, Along}
-use Rattle.adjust.proofs.Bounded.{along-size}
+use Rattle.adjust.proofs.Bounded.{along_size}
 use Rattle.adjust.proofs.heights.exact_top.Goals as goal
 
-module _ (f : Frame) (q s : ℤ) (h : Framed f × (nat_abs q ≤ mostSumQ) × Along f s) where
-  abbrev length : Value (stored f.total) f.total mostL
+module _ (f : Frame) (q s : ℤ) (h : Framed f × (nat_abs q ≤ most_sum_q) × Along f s) where
+  abbrev length : Value (stored f.total) f.total most_l
   length = known f.total h.0.total.most tt
 
-  begin : Value (stored f.units *ℤ stored f.start) (f.units *ℤ f.start) (mostUnits * highest)
+  begin : Value (stored f.units *ℤ stored f.start) (f.units *ℤ f.start) (most_units * highest)
   begin = mul (known f.units h.0.units.most tt) (known f.start h.0.start tt)
 
-  start : Value (stored (stored f.units *ℤ stored f.start) *ℤ stored f.total) (f.units *ℤ f.start *ℤ f.total) (mostUnits * highest * mostL)
+  start : Value (stored (stored f.units *ℤ stored f.start) *ℤ stored f.total) (f.units *ℤ f.start *ℤ f.total) (most_units * highest * most_l)
   start = mul (kept begin tt) length
 
-  height : Value (stored q *ℤ stored f.total) (q *ℤ f.total) (mostSumQ * mostL)
+  height : Value (stored q *ℤ stored f.total) (q *ℤ f.total) (most_sum_q * most_l)
   height = mul (known q h.1 tt) length
 
-  spread : Value (stored f.closure *ℤ stored s) (f.closure *ℤ s) (mostW * mostL)
-  spread = mul (known f.closure h.0.closure tt) (known s (along-size f s h.0 h.2) tt)
+  spread : Value (stored f.closure *ℤ stored s) (f.closure *ℤ s) (most_w * most_l)
+  spread = mul (known f.closure h.0.closure tt) (known s (along_size f s h.0 h.2) tt)
 
   raw :
       Value (stored (stored (stored f.units *ℤ stored f.start) *ℤ stored f.total) +ℤ stored (stored q *ℤ stored f.total))
-      (f.units *ℤ f.start *ℤ f.total +ℤ q *ℤ f.total) (mostUnits * highest * mostL + mostSumQ * mostL)
+      (f.units *ℤ f.start *ℤ f.total +ℤ q *ℤ f.total) (most_units * highest * most_l + most_sum_q * most_l)
   raw = add (kept start tt) (kept height tt)
 
   level :
       Value
       (stored (stored (stored (stored f.units *ℤ stored f.start) *ℤ stored f.total) +ℤ stored (stored q *ℤ stored f.total)) -ℤ stored (stored f.closure *ℤ stored s))
-      (f.units *ℤ f.start *ℤ f.total +ℤ q *ℤ f.total -ℤ f.closure *ℤ s) (mostUnits * highest * mostL + mostSumQ * mostL + mostW * mostL)
+      (f.units *ℤ f.start *ℤ f.total +ℤ q *ℤ f.total -ℤ f.closure *ℤ s) (most_units * highest * most_l + most_sum_q * most_l + most_w * most_l)
   level = sub (kept raw tt) (kept spread tt)
 
 pub overflow_mul-result : goal.overflow_mul-result

@@ -6,65 +6,65 @@ use lib.IntN.{ℤ, pos, nat_abs, ◌+ℤ◌, ◌*ℤ◌, +ℤ_assoc, +ℤ_idl}
 use lib.Signed.{◌≤ℤ◌}
 use Rattle.numbers.specs.Numbers.{over, put_at, filled}
 use Rattle.numbers.proofs.Parts.{ints, parts_add}
-use Rattle.numbers.proofs.Sizes.{abs-add}
-use Rattle.numbers.proofs.Arrays.{put-cons, put_all, written-fits}
-use Rattle.numbers.proofs.Machine.{stored, stored-id}
+use Rattle.numbers.proofs.Sizes.{abs_add}
+use Rattle.numbers.proofs.Arrays.{put_cons, put_all, written_fits}
+use Rattle.numbers.proofs.Machine.{stored, stored_id}
 use Rattle.numbers.proofs.Chain.{Value, known, mul, fits, kept}
 use Rattle.adjust.specs.declared.Point.{Point}
 use Rattle.adjust.specs.declared.Section.{Section}
 use Rattle.adjust.specs.declared.Sections.{Sections}
 use Rattle.adjust.specs.declared.Frame.{Frame}
 use Rattle.adjust.specs.declared.heights.Progress.{Progress}
-use Rattle.adjust.specs.Sizes.{highest, mostQ, mostPrints}
-use Rattle.adjust.specs.Sections.{sectionAt, sectionsOf}
-use Rattle.adjust.specs.Line.{lineLength, pointAfter, pointsAfter, points}
-use Rattle.adjust.specs.Frames.{noPoint}
+use Rattle.adjust.specs.Sizes.{highest, most_q, most_prints}
+use Rattle.adjust.specs.Sections.{section_at, sections_of}
+use Rattle.adjust.specs.Line.{line_length, point_after, points_after, points}
+use Rattle.adjust.specs.Frames.{no_point}
 use Rattle.adjust.specs.code.Bounds.{LegBounds, Framed, Along, Reached}
-use Rattle.adjust.proofs.Lists.{remaining, all-remain, next-remains, none-remain, from-length, Fit, fit-head, fit-tail, points-length}
-use Rattle.adjust.proofs.Bounded.{printed-size}
+use Rattle.adjust.proofs.Lists.{remaining, all_remain, next_remains, none_remain, from_length, Fit, fit_head, fit_tail, points_length}
+use Rattle.adjust.proofs.Bounded.{printed_size}
 use Rattle.adjust.proofs.Sized.{long}
 use Rattle.adjust.proofs.heights.points_of.Invariants.{coming, Going}
 use Rattle.adjust.proofs.heights.points_of.Goals as goal
 
-abbrev startPoint : ℤ → ℤ → Point
-startPoint number height = record { number = number; distance = pos 0; correction = pos 0; height = height }
+abbrev start_point : ℤ → ℤ → Point
+start_point number height = record { number = number; distance = pos 0; correction = pos 0; height = height }
 
 -- the height at the start
-first : (f : Frame) → Framed f → Value (stored f.prints *ℤ stored f.start) (f.prints *ℤ f.start) (mostPrints * highest)
+first : (f : Frame) → Framed f → Value (stored f.prints *ℤ stored f.start) (f.prints *ℤ f.start) (most_prints * highest)
 first f h = mul (known f.prints h.prints.most tt) (known f.start h.start tt)
 
-begun : (f : Frame) (number : ℤ) (s : Sections) → Framed f → Fit (sectionsOf s) → f.total ≡ lineLength (sectionsOf s)
-    → let p : Point = startPoint number (f.prints *ℤ f.start) in Going f number s (filled noPoint 65 (p ∷ [])) (record { height = pos 0; point = p }) 0
+begun : (f : Frame) (number : ℤ) (s : Sections) → Framed f → Fit (sections_of s) → f.total ≡ line_length (sections_of s)
+    → let p : Point = start_point number (f.prints *ℤ f.start) in Going f number s (filled no_point 65 (p ∷ [])) (record { height = pos 0; point = p }) 0
 unfolding put_at
 begun f number s h fit whole =
     record {
       reached = record { height = omega arith; along = record { begun = omega ints; within = omega (ints, h.total.least) }; printed = omega (arith, (first f h).size) };
-      fit = subst Fit (sym (all-remain s)) fit;
-      ends = +ℤ_idl (lineLength (remaining s 0)) ∙ ap lineLength (all-remain s) ∙ sym whole;
+      fit = subst Fit (sym (all_remain s)) fit;
+      ends = +ℤ_idl (line_length (remaining s 0)) ∙ ap line_length (all_remain s) ∙ sym whole;
       room = refl;
-      left = ap (λ (xs : List Section). over (startPoint number (f.prints *ℤ f.start) ∷ pointsAfter f (pos 0) (pos 0) (f.prints *ℤ f.start) xs) (replicate 65 noPoint)) (all-remain s);
+      left = ap (λ (xs : List Section). over (start_point number (f.prints *ℤ f.start) ∷ points_after f (pos 0) (pos 0) (f.prints *ℤ f.start) xs) (replicate 65 no_point)) (all_remain s);
     }
 
 abbrev moved : Frame → Progress → Section → Progress
-moved f w x = record { height = w.height +ℤ x.height; point = pointAfter f w.height w.point.distance w.point.height x }
+moved f w x = record { height = w.height +ℤ x.height; point = point_after f w.height w.point.distance w.point.height x }
 
 module _ {f : Frame} {number : ℤ} {s : Sections} {array : List Point} {w : Progress} {k : ℕ} (here : k < s.count) (few : s.count ≤ 64) (g : Going f number s array w k) where
   abbrev x : Section
-  x = sectionAt s k
+  x = section_at s k
 
   fits_next : Fit (x ∷ remaining s (k + 1))
-  fits_next = subst Fit (next-remains s k here) g.fit
+  fits_next = subst Fit (next_remains s k here) g.fit
 
   leg : LegBounds x
-  leg = fit-head x (remaining s (k + 1)) fits_next
+  leg = fit_head x (remaining s (k + 1)) fits_next
 
-  reached-63 : Reached f 63 w
-  reached-63 = record { height = omega (arith, g.reached.height); along = g.reached.along; printed = g.reached.printed }
+  reached_63 : Reached f 63 w
+  reached_63 = record { height = omega (arith, g.reached.height); along = g.reached.along; printed = g.reached.printed }
 
-  ends_next : w.point.distance +ℤ x.distance +ℤ lineLength (remaining s (k + 1)) ≡ f.total
+  ends_next : w.point.distance +ℤ x.distance +ℤ line_length (remaining s (k + 1)) ≡ f.total
   ends_next =
-      +ℤ_assoc w.point.distance x.distance (lineLength (remaining s (k + 1)))
-      ∙ sym (ap (λ (xs : List Section). w.point.distance +ℤ lineLength xs) (next-remains s k here))
+      +ℤ_assoc w.point.distance x.distance (line_length (remaining s (k + 1)))
+      ∙ sym (ap (λ (xs : List Section). w.point.distance +ℤ line_length xs) (next_remains s k here))
       ∙ g.ends
 
   -- the sections behind this one are not shorter than nothing
@@ -72,7 +72,7 @@ module _ {f : Frame} {number : ℤ} {s : Sections} {array : List Point} {w : Pro
   along =
       let d : ℤ = w.point.distance +ℤ x.distance in
       let rest = remaining s (k + 1) in
-      let before : d ≤ℤ (d +ℤ lineLength rest) = omega (ints, parts_add d (lineLength rest), long rest (fit-tail x rest fits_next)) in
+      let before : d ≤ℤ (d +ℤ line_length rest) = omega (ints, parts_add d (line_length rest), long rest (fit_tail x rest fits_next)) in
       record {
         begun = omega (ints, g.reached.along.begun, leg.long, parts_add w.point.distance x.distance);
         within = subst (λ (z : ℤ). d ≤ℤ z) ends_next before;
@@ -81,15 +81,15 @@ module _ {f : Frame} {number : ℤ} {s : Sections} {array : List Point} {w : Pro
   next : Framed f → let v : Progress = moved f w x in Going f number s (set array (k + 1) v.point) v (k + 1)
   next h =
       let p = (moved f w x).point in
-      let q : nat_abs (w.height +ℤ x.height) ≤ mostQ * (k + 1) = omega (arith, abs-add w.height x.height, g.reached.height, leg.height) in
+      let q : nat_abs (w.height +ℤ x.height) ≤ most_q * (k + 1) = omega (arith, abs_add w.height x.height, g.reached.height, leg.height) in
       record {
-        reached = record { height = q; along = along; printed = printed-size f (w.height +ℤ x.height) (w.point.distance +ℤ x.distance) h (omega arith) along };
-        fit = fit-tail x (remaining s (k + 1)) fits_next;
+        reached = record { height = q; along = along; printed = printed_size f (w.height +ℤ x.height) (w.point.distance +ℤ x.distance) h (omega arith) along };
+        fit = fit_tail x (remaining s (k + 1)) fits_next;
         ends = ends_next;
         room = length-set array (k + 1) p ∙ g.room;
         left =
-            put-cons array (k + 1) p (coming f s (moved f w x) (k + 1)) (omega (arith, g.room))
-            ∙ sym (ap (λ (xs : List Section). put_at array (k + 1) (pointsAfter f w.height w.point.distance w.point.height xs)) (next-remains s k here))
+            put_cons array (k + 1) p (coming f s (moved f w x) (k + 1)) (omega (arith, g.room))
+            ∙ sym (ap (λ (xs : List Section). put_at array (k + 1) (points_after f w.height w.point.distance w.point.height xs)) (next_remains s k here))
             ∙ g.left;
       }
 
@@ -100,7 +100,7 @@ pub loop-k-init : goal.loop-k-init
 loop-k-init c =
     let f = c.args.f in
     let n = stored c.args.number in
-    let p : ℤ → Point = startPoint n in
+    let p : ℤ → Point = start_point n in
     subst (λ (z : ℤ). Going f n c.args.s (set c.no_points-points.result 0 (p z)) (record { height = pos 0; point = p z }) 0) (sym (kept (first f c.requires.0) tt).is)
     (subst (λ (ps : List Point). Going f n c.args.s (set ps 0 (p (f.prints *ℤ f.start))) (record { height = pos 0; point = p (f.prints *ℤ f.start) }) 0) (sym c.no_points-points.ensures)
     (begun f n c.args.s c.requires.0 c.requires.1.legs c.requires.2))
@@ -111,7 +111,7 @@ next_point-w-requires c =
     let few = c.requires.1.few in
     let g = c.loop-k.invariant in
     let e = sym c.section_at.ensures in
-    (c.requires.0, reached-63 here few g, subst LegBounds e (leg here few g), subst (λ (y : Section). Along c.args.f (c.loop-k.w.point.distance +ℤ y.distance)) e (along here few g))
+    (c.requires.0, reached_63 here few g, subst LegBounds e (leg here few g), subst (λ (y : Section). Along c.args.f (c.loop-k.w.point.distance +ℤ y.distance)) e (along here few g))
 
 pub loop-k-preserved : goal.loop-k-preserved
 loop-k-preserved c =
@@ -124,11 +124,11 @@ pub returns : goal.returns
 returns c =
     let f = c.args.f in
     let s = c.args.s in
-    let ss = sectionsOf s in
+    let ss = sections_of s in
     let w = c.loop-k.w in
     let k = c.loop-k.k in
-    let none = ap (pointsAfter f w.height w.point.distance w.point.height) (none-remain s k c.loop-k-test.false) in
+    let none = ap (points_after f w.height w.point.distance w.point.height) (none_remain s k c.loop-k-test.false) in
     put_all c.loop-k.points (k + 1) none c.loop-k.invariant.left
-    ∙ ap (λ (n : ℤ). over (points f n ss) (replicate 65 noPoint)) (stored-id c.ranges.number)
-    ∙ sym (written-fits (points f c.args.number ss) (replicate 65 noPoint)
-    (omega (arith, c.requires.1.few, from-length s 0 s.count, points-length f (pos 0) (pos 0) (f.prints *ℤ f.start) ss)))
+    ∙ ap (λ (n : ℤ). over (points f n ss) (replicate 65 no_point)) (stored_id c.ranges.number)
+    ∙ sym (written_fits (points f c.args.number ss) (replicate 65 no_point)
+    (omega (arith, c.requires.1.few, from_length s 0 s.count, points_length f (pos 0) (pos 0) (f.prints *ℤ f.start) ss)))

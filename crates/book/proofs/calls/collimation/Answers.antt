@@ -4,10 +4,10 @@ use Prim.Native.Nat.{ℕ}
 use Rattle.std.proofs.Common.{rules}
 use Rattle.adjust.proofs.Holding.{Places}
 use Rattle.rules.specs.Rules.{Call, collimation}
-use Rattle.rules.proofs.Looked.{collimation-alike}
-use Rattle.changes.specs.code.Changes.{changeBy}
+use Rattle.rules.proofs.Looked.{collimation_alike}
+use Rattle.changes.specs.code.Changes.{change_by}
 use Rattle.changes.proofs.Joined.{plain}
-use Rattle.book.proofs.Joined.{step-made, step-answers}
+use Rattle.book.proofs.Joined.{step_made, step_answers}
 use Rattle.book.proofs.calls.collimation.Goals as goal
 
 pub returns : goal.returns
@@ -15,6 +15,6 @@ returns c =
     let b = c.args.b in
     let w : Places c.args.b.sections = search rules in
     let asked : Call = collimation c.args.x in
-    step-answers b (plain asked)
-    (c.step_of.ensures ∙ step-made b w asked (c.collimation_change-c.ensures ∙ ap (λ (n : ℕ). changeBy n b.line asked) (collimation-alike b c.args.x)))
+    step_answers b (plain asked)
+    (c.step_of.ensures ∙ step_made b w asked (c.collimation_change-c.ensures ∙ ap (λ (n : ℕ). change_by n b.line asked) (collimation_alike b c.args.x)))
     c.outcome_of.ensures

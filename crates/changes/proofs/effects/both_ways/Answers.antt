@@ -1,5 +1,5 @@
 -- `both_ways` returns the section of two small runs: each sum and difference of theirs fits, so that it is read back as it is.
-use Rattle.numbers.proofs.Machine.{stored-id}
+use Rattle.numbers.proofs.Machine.{stored_id}
 use Rattle.numbers.proofs.Chain.{known, add, sub, kept}
 use Rattle.changes.proofs.effects.both_ways.Goals as goal
 
@@ -11,7 +11,7 @@ returns c =
     let b = c.requires.1 in
     λ i.
     record {
-      number = stored-id c.ranges.number i;
+      number = stored_id c.ranges.number i;
       height = (kept (sub (known out.height o.height tt) (known back.height b.height tt)) tt).is i;
       distance = (kept (add (known out.sights o.sights tt) (known back.sights b.sights tt)) tt).is i;
       discrepancy = (kept (add (known out.height o.height tt) (known back.height b.height tt)) tt).is i;

@@ -1,12 +1,12 @@
 -- What is left are digits exactly if all are, and makes with n the value of all.
 use Rattle.std.proofs.Common.{◌≡◌, ◌<◌, ◌^◌, drop}
 use Rattle.columns.specs.Decimals.{value_of}
-use Rattle.columns.specs.code.Parser.{allDigits}
+use Rattle.columns.specs.code.Parser.{all_digits}
 use Rattle.columns.proofs.parser.digit_run.Given as goal
 
 abbrev pub invariant-loop-i : goal.invariant-loop-i
 invariant-loop-i l = record {
   small : l.n < 10 ^ l.i;
-  digits : allDigits l.bs ≡ allDigits (drop l.i l.bs);
+  digits : all_digits l.bs ≡ all_digits (drop l.i l.bs);
   value : value_of 0 l.bs ≡ value_of l.n (drop l.i l.bs);
 }

@@ -4,7 +4,7 @@ use Rattle.std.proofs.lemmas.Int.{to_z-of_z}
 use lib.ListN.{length-set}
 use mir.Syntax.{w64}
 use mir.Val.{SFits}
-use Rattle.columns.proofs.Records.{numbers-next, values-put}
+use Rattle.columns.proofs.Records.{numbers_next, values_put}
 use Rattle.columns.proofs.parser.read_numbers.Goals as goal
 
 pub loop-i-preserved : goal.loop-i-preserved
@@ -18,6 +18,6 @@ loop-i-preserved c =
     let e = sym (rw eight at c.read_field-field.ensures) ∙ c.in-Number.is in
     record {
       places = simp length-set c.loop-i.invariant.places;
-      numbers = c.loop-i.invariant.numbers ∙ numbers-next l n i (omega arith) z e;
-      values = rw (to_z-of_z w64 z fit) (values-put l n i (omega arith) c.loop-i.values z (omega arith) e ∙ c.loop-i.invariant.values);
+      numbers = c.loop-i.invariant.numbers ∙ numbers_next l n i (omega arith) z e;
+      values = rw (to_z-of_z w64 z fit) (values_put l n i (omega arith) c.loop-i.values z (omega arith) e ∙ c.loop-i.invariant.values);
     }
