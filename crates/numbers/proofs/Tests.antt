@@ -51,13 +51,6 @@ pub or_r : (a b : Bool) → a || b ≡ false → b ≡ false
 or_r true b e = no_true (sym e)
 or_r false b e = e
 
-pub or_left : {a : Bool} (b : Bool) → a ≡ true → a || b ≡ true
-or_left b e = λ j. e j || b
-
-pub or_right : (a : Bool) {b : Bool} → b ≡ true → a || b ≡ true
-or_right true e = refl
-or_right false e = e
-
 -- two tests of naturals that hold together
 pub leb_same : (x y u v : ℕ) → (x ≤ y → u ≤ v) → (u ≤ v → x ≤ y) → leb x y ≡ leb u v
 leb_same x y u v there back = go (dec_le x y)
