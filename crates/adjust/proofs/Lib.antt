@@ -1,13 +1,11 @@
--- What callers cite: Lines, the adjustment's theorem in any units; Refused, Taken and Legs, the adjustment call; Lists, Holding, Lent, Sized and Bounded, sections in
--- arrays and the sizes of their figures; Classes, the table of classes.
+-- What callers cite: Lines, the adjustment's theorem in any units; Refused, Taken and Legs, the adjustment call; Holding, sections in an array; Lists, Sized and Bounded, the
+-- sizes of their figures; Classes, the table of classes.
 pub mod Classes
 pub mod Lines
 pub mod Lists
 pub mod Bounded
 pub mod Sized
 pub mod Holding
-pub mod Lent
 pub mod Legs
 pub mod Refused
 pub mod Taken
-pub mod Copies

@@ -1,60 +1,34 @@
--- Sections in arrays: the list from a place on, a section at a time; and what sections in the wider range are bounded by.
+-- Sections in the wider range, one and all, and a point for each.
 use mathlib.Core.Path.{◌≡◌, refl, ap}
-use mathlib.Core.Bool.{true, ◌&&◌}
+use mathlib.Core.Bool.{Bool, true, ◌&&◌, ◌||◌}
 use mathlib.Core.List.{List, [], ◌∷◌}
-use Prim.Native.Nat.{ℕ, zero, suc, ◌+◌, ◌-◌, ◌≤◌, ◌<◌}
+use Prim.Native.Nat.{suc, ◌≤◌}
 use native.Mathlib.Omega.{arith}
 use lib.ListN.{length}
 use lib.IntN.{ℤ, pos, nat_abs, ◌+ℤ◌}
 use lib.Signed.{◌≤ℤ◌, le_z}
 use borrow.Author.Tests.{le-leb}
+use Rattle.std.specs.List.{list_any}
 use Rattle.std.proofs.lemmas.Bool.Decides.{nat_tests}
-use Rattle.numbers.specs.Numbers.{within, between}
+use Rattle.numbers.specs.Numbers.{any_of, within, between}
 use Rattle.numbers.proofs.Tests.{and_l, and_r}
 use Rattle.numbers.proofs.All.{All, all_head, all_tail, all_weaken}
 use Rattle.numbers.proofs.Parts.{ints, parts_abs, test_le}
 use Rattle.numbers.proofs.Sizes.{within_size}
 use Rattle.adjust.specs.declared.Section.{Section}
-use Rattle.adjust.specs.declared.Sections.{Sections}
 use Rattle.adjust.specs.Sizes.{most_q, most_r, most_d}
-use Rattle.adjust.specs.Sections.{section_at, sections_from, sections_of, leg_in_range, leg_fits, section_fits}
+use Rattle.adjust.specs.Sections.{leg_in_range, leg_fits, section_fits}
 use Rattle.adjust.specs.declared.Frame.{Frame}
 use Rattle.adjust.specs.Line.{printed_height, points_after}
 use Rattle.adjust.specs.code.Bounds.{LegBounds}
 
--- ---- the sections from place k on, which a loop has still to visit
+-- the library's word
+pub any_listed : (p : Section → Bool) (xs : List Section) → list_any p xs ≡ any_of p xs
+any_listed p [] = refl
+any_listed p (x ∷ xs) = ap (λ (t : Bool). p x || t) (any_listed p xs)
 
-abbrev pub remaining : Sections → ℕ → List Section
-remaining s k = sections_from s k (s.count - k)
-
-pub all_remain : (s : Sections) → remaining s 0 ≡ sections_of s
-all_remain s = ap (sections_from s 0) e
-  where
-    e : s.count - 0 ≡ s.count
-    e = omega arith
-
--- the next one and those behind it
-pub next_remains : (s : Sections) (k : ℕ) → k < s.count → remaining s k ≡ section_at s k ∷ remaining s (k + 1)
-unfolding sections_from
-next_remains s k h = ap (sections_from s k) e
-  where
-    e : s.count - k ≡ suc (s.count - (k + 1))
-    e = omega arith
-
-pub none_remain : (s : Sections) (k : ℕ) → s.count ≤ k → remaining s k ≡ []
-unfolding sections_from
-none_remain s k h = ap (sections_from s k) e
-  where
-    e : s.count - k ≡ 0
-    e = omega arith
-
-pub from_length : (s : Sections) (k n : ℕ) → length (sections_from s k n) ≡ n
-unfolding sections_from
-from_length s k zero = refl
-from_length s k (suc n) = ap suc (from_length s (k + 1) n)
-
--- tests of how many sections there are
-pub ruleset counts = (from_length, nat_tests)
+-- tests of sections, one and all
+pub ruleset counts = (any_listed, nat_tests)
 
 -- ---- sections in the wider range
 

@@ -3,6 +3,7 @@
 use mathlib.Core.Path.{◌≡◌, refl, ap}
 use mathlib.Core.Bool.{Bool, true, false, not, cond, ◌&&◌}
 use mathlib.Core.List.{List, [], ◌∷◌}
+use Rattle.std.specs.Prelude.{Some, None}
 use Prim.Native.Nat.{ℕ, ◌*◌, ◌≤◌}
 use native.Mathlib.Omega.{arith}
 use lib.Dec.{leb, ltb, leb→le, ltb→lt, nltb→le}
@@ -17,17 +18,15 @@ use Rattle.numbers.proofs.Tables.{failed}
 use Rattle.numbers.proofs.Chain.{plain, add, sub, mul}
 use Rattle.adjust.specs.declared.Opening.{Opening}
 use Rattle.adjust.specs.declared.Section.{Section}
-use Rattle.adjust.specs.declared.Sections.{Sections}
 use Rattle.adjust.specs.declared.Totals.{Totals}
 use Rattle.adjust.specs.declared.terms.Terms.{Terms}
-use Rattle.adjust.specs.declared.LineTotals.TheVariants.{Totalled, NotTotalled}
 use Rattle.adjust.specs.Sizes.{highest, most_q, most_r, most_units, most_prints, most_sum_q, most_w}
-use Rattle.adjust.specs.Sections.{sections_of, any_outside, misfit, height_in_range}
+use Rattle.adjust.specs.Sections.{section_fits, any_outside, misfit, height_in_range}
 use Rattle.adjust.specs.Line.{quarters, wholes, line_height, line_length, totals, totals_by, frame, frame_of, closing}
-use Rattle.adjust.specs.Frames.{figures_fit, line_totals, adjusted_of, not_adjusted, line_figures}
+use Rattle.adjust.specs.Frames.{figures_fit, line_totals, adjusted_of, line_figures}
 use Rattle.adjust.specs.Call.{adjust_tests, adjust_refusal}
 use Rattle.adjust.specs.code.Bounds.{OneTo, Fitted, Between, Framed}
-use Rattle.adjust.proofs.Lists.{Fit, fit_head, fit_tail, fitted_legs, strict_legs, from_length}
+use Rattle.adjust.proofs.Lists.{Fit, fit_head, fit_tail, fitted_legs, strict_legs}
 
 pub height_size : (xs : List Section) → Fit xs → nat_abs (line_height xs) ≤ most_q * length xs
 height_size [] f = omega arith
@@ -48,20 +47,19 @@ in_range_lem h e =
     let high : h ≤ℤ pos highest = test_le (and_r (le_z (neg_ℤ (pos 999999)) h) (le_z h (pos highest)) e) in
     omega (ints, parts_abs h)
 
-module _ {units prints start end : ℤ} {s : Sections} (u : OneTo most_units units) (p : OneTo most_prints prints) (b : Between start end s) where
-  pub framed : Framed (frame_of units prints start end (sections_of s))
+module _ {units prints start end : ℤ} {ss : List Section} (u : OneTo most_units units) (p : OneTo most_prints prints) (b : Between start end ss) where
+  pub framed : Framed (frame_of units prints start end ss)
   framed =
-      let n = from_length s 0 s.count in
-      let h : nat_abs (line_height (sections_of s)) ≤ most_sum_q = omega (arith, n, height_size (sections_of s) b.fits.legs, b.fits.few) in
+      let h : nat_abs (line_height ss) ≤ most_sum_q = omega (arith, height_size ss b.fits.legs, b.fits.few) in
       record {
         units = u;
         prints = p;
         start = b.start_size;
-        closure = (sub (add (mul (plain units u.most) (plain start b.start_size)) (plain (line_height (sections_of s)) h)) (mul (plain units u.most) (plain end b.end_size))).size;
+        closure = (sub (add (mul (plain units u.most) (plain start b.start_size)) (plain (line_height ss) h)) (mul (plain units u.most) (plain end b.end_size))).size;
         total =
             record {
-              least = omega (ints, n, long (sections_of s) b.fits.legs, b.some);
-              most = omega (arith, n, length_size (sections_of s) b.fits.legs, b.fits.few);
+              least = omega (ints, long ss b.fits.legs, b.some);
+              most = omega (arith, length_size ss b.fits.legs, b.fits.few);
             };
       }
 
@@ -82,20 +80,18 @@ framed_by terms {t} f = record { units = f.units; prints = f.prints; start = f.s
 
 -- ---- figures that fit
 
-pub fitting : (start end : ℤ) (s : Sections) → figures_fit start end (sections_of s) ≡ true → Between start end s × Fitted s
+pub fitting : (start end : ℤ) (ss : List Section) → figures_fit start end ss ≡ true → Between start end ss × Fitted ss
 unfolding figures_fit
-fitting start end s e =
-    let ss = sections_of s in
-    let n = from_length s 0 s.count in
+fitting start end ss e =
     let some_test = ltb 0 (length ss) in
     let fit_test = not (misfit ss) in
     let heights = and_l (some_test && fit_test && height_in_range start) (height_in_range end) e in
     let sections = and_l (some_test && fit_test) (height_in_range start) heights in
     let fit = not-true (misfit ss) (and_r some_test fit_test sections) in
-    let inside = or_r (not (leb (length ss) 64)) (any_outside false ss) fit in
-    let few : s.count ≤ 64 = omega (arith, n, leb→le (length ss) 64 (holds (not-false (leb (length ss) 64) (or_l (not (leb (length ss) 64)) (any_outside false ss) fit)))) in (
+    let inside = or_r (not (leb (length ss) 64)) (any_outside section_fits ss) fit in
+    let few : length ss ≤ 64 = leb→le (length ss) 64 (holds (not-false (leb (length ss) 64) (or_l (not (leb (length ss) 64)) (any_outside section_fits ss) fit))) in (
       record {
-        some = omega (arith, n, ltb→lt 0 (length ss) (holds (and_l some_test fit_test sections)));
+        some = omega (arith, ltb→lt 0 (length ss) (holds (and_l some_test fit_test sections)));
         fits = record { few = few; legs = fitted_legs ss inside };
         start_size = in_range_lem start (and_r (some_test && fit_test) (height_in_range start) heights);
         end_size = in_range_lem end (and_r (some_test && fit_test && height_in_range start) (height_in_range end) e);
@@ -103,45 +99,43 @@ fitting start end s e =
       record { few = few; sections = inside },
     )
 
-module _ (start end : ℤ) (s : Sections) (e : figures_fit start end (sections_of s) ≡ true) where
-  pub fit_between : Between start end s
-  fit_between = (fitting start end s e).0
+module _ (start end : ℤ) (ss : List Section) (e : figures_fit start end ss ≡ true) where
+  pub fit_between : Between start end ss
+  fit_between = (fitting start end ss e).0
 
-  pub fit_fitted : Fitted s
-  fit_fitted = (fitting start end s e).1
+  pub fit_fitted : Fitted ss
+  fit_fitted = (fitting start end ss e).1
 
 -- what is asked where figures fit, by the machine's heights
 pub ruleset fits = (quarters_in, fit_between, fit_fitted, to_z-of_z)
 
 -- ---- what is answered of figures that fit, and of those that do not
 
-pub totals_by_lem : (start end : ℤ) (ss : List Section) {t : Bool} → figures_fit start end ss ≡ t → line_totals start end ss ≡ cond t (Totalled (totals quarters start end ss)) NotTotalled
+pub totals_by_lem : (start end : ℤ) (ss : List Section) {t : Bool} → figures_fit start end ss ≡ t → line_totals start end ss ≡ cond t (Some (totals quarters start end ss)) None
 unfolding line_totals
-totals_by_lem start end ss e = ap (λ (t : Bool). cond t (Totalled (totals quarters start end ss)) NotTotalled) e
+totals_by_lem start end ss e = ap (λ (t : Bool). cond t (Some (totals quarters start end ss)) None) e
 
-pub figures_by : (o : Opening) (end : ℤ) (ss : List Section) {t : Bool} → figures_fit o.start.height end ss ≡ t → line_figures o end ss ≡ cond t (adjusted_of (closing o end ss)) not_adjusted
+pub figures_by : (o : Opening) (end : ℤ) (ss : List Section) {t : Bool} → figures_fit o.start.height end ss ≡ t → line_figures o end ss ≡ cond t (Some (adjusted_of (closing o end ss))) None
 unfolding line_figures
-figures_by o end ss e = ap (λ (t : Bool). cond t (adjusted_of (closing o end ss)) not_adjusted) e
+figures_by o end ss e = ap (λ (t : Bool). cond t (Some (adjusted_of (closing o end ss))) None) e
 
 -- ---- an adjustment that is not refused
 
-pub adjustable : (start end : ℤ) (s : Sections) (places : ℕ) → adjust_refusal start end (sections_of s) places ≡ 0 → Between start end s × (s.count ≤ places)
+pub adjustable : (start end : ℤ) (ss : List Section) (places : ℕ) → adjust_refusal start end ss places ≡ 0 → Between start end ss × (length ss ≤ places)
 unfolding adjust_refusal
-adjustable start end s places e =
-    let ss = sections_of s in
-    let n = from_length s 0 s.count in
+adjustable start end ss places e =
     let test = failed (adjust_tests start end ss places) refl e in
     let count = not-false (ltb 0 (length ss) && leb (length ss) 64) (test 11) in
     let heights = not-false (height_in_range start && height_in_range end) (test 5) in (
       record {
-        some = omega (arith, n, ltb→lt 0 (length ss) (holds (and_l (ltb 0 (length ss)) (leb (length ss) 64) count)));
+        some = omega (arith, ltb→lt 0 (length ss) (holds (and_l (ltb 0 (length ss)) (leb (length ss) 64) count)));
         fits =
             record {
-              few = omega (arith, n, leb→le (length ss) 64 (holds (and_r (ltb 0 (length ss)) (leb (length ss) 64) count)));
+              few = leb→le (length ss) 64 (holds (and_r (ltb 0 (length ss)) (leb (length ss) 64) count));
               legs = strict_legs ss (test 12);
             };
         start_size = in_range_lem start (and_l (height_in_range start) (height_in_range end) heights);
         end_size = in_range_lem end (and_r (height_in_range start) (height_in_range end) heights);
       },
-      omega (arith, n, nltb→le places (length ss) (fails (test 13))),
+      nltb→le places (length ss) (fails (test 13)),
     )

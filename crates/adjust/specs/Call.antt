@@ -1,10 +1,10 @@
 -- The adjustment call: its refusals in the order that document 01 gives them, and the heights that it writes.
-use Rattle.std.specs.Prelude.{Bool, true, not, cond, ◌&&◌, List, [], ◌∷◌, map, ℕ, length, leb, ltb, eqb, ℤ}
+use Rattle.std.specs.Prelude.{Bool, not, cond, ◌&&◌, List, [], ◌∷◌, map, ℕ, length, leb, ltb, eqb, ℤ}
 use Rattle.numbers.specs.Numbers.{over}
 use Rattle.numbers.specs.Tables.{first_of}
 use Rattle.adjust.specs.declared.Section.{Section}
 use Rattle.adjust.specs.declared.Point.{Point}
-use Rattle.adjust.specs.Sections.{any_outside, height_in_range}
+use Rattle.adjust.specs.Sections.{leg_in_range, any_outside, height_in_range}
 use Rattle.adjust.specs.Line.{quarters, wholes, frame_of, section_points}
 
 -- of sections between two known heights, into a list with so many places
@@ -12,7 +12,7 @@ abbrev pub adjust_tests : ℤ → ℤ → List Section → ℕ → List (ℕ × 
 adjust_tests start end ss places =
     (11, not (ltb 0 (length ss) && leb (length ss) 64))
     ∷ (13, ltb places (length ss))
-    ∷ (12, any_outside true ss)
+    ∷ (12, any_outside leg_in_range ss)
     ∷ (5, not (height_in_range start && height_in_range end)) ∷ []
 
 -- document 01's order of these numbers: 11, 13, 12, 5

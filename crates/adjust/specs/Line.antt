@@ -8,6 +8,8 @@ use Rattle.adjust.specs.declared.Section.{Section}
 use Rattle.adjust.specs.declared.Point.{Point}
 use Rattle.adjust.specs.declared.Totals.{Totals}
 use Rattle.adjust.specs.declared.Summary.{Summary}
+use Rattle.adjust.specs.declared.Verdict.{Verdict}
+use Rattle.adjust.specs.declared.Verdict.TheVariants.{NotGiven, Within, Above}
 use Rattle.adjust.specs.declared.Frame.{Frame}
 use Rattle.adjust.specs.declared.terms.Terms.{Terms}
 use Rattle.adjust.specs.Terms.{terms_of}
@@ -89,9 +91,15 @@ accidental squared x = round_even (pos 500000 *ℤ (x.discrepancy *ℤ x.discrep
 abbrev pub accidental_sum : Terms → ℕ → List Section → ℤ
 accidental_sum terms squared ss = cond terms.double (sum (map (accidental squared) ss)) (pos 0)
 
--- 0 below 20 sections and where they are levelled one way; 1 for a T within its limit, 2 above
-abbrev pub verdict : Terms → ℕ → ℤ → ℕ
-verdict terms n t = cond (not terms.double || ltb n 20) 0 (cond (le_z t (terms.accidental *ℤ pos n)) 1 2)
+-- none below 20 sections and where they are levelled one way
+abbrev pub verdict : Terms → ℕ → ℤ → Verdict
+verdict terms n t = cond (not terms.double || ltb n 20) NotGiven (cond (le_z t (terms.accidental *ℤ pos n)) Within Above)
+
+-- its number in the report and in what C is given
+abbrev pub verdict_number : Verdict → ℕ
+verdict_number NotGiven = 0
+verdict_number Within = 1
+verdict_number Above = 2
 
 -- ---- what closing a line gives
 

@@ -2,7 +2,6 @@
 -- says what each field is, and its unit; 20,000 half dm are a kilometre. Nothing else in the rules goes by the class, but a station's limits (`limits_of`), by its order.
 use Rattle.std.specs.Prelude.{true, false, pos}
 use Rattle.station.specs.declared.Order.{Order}
-use Rattle.station.specs.declared.Order.TheVariants as Order
 use Rattle.adjust.specs.declared.terms.Class.{Class}
 use Rattle.adjust.specs.declared.terms.Class.TheVariants.{Third, Fourth, Spur}
 use Rattle.adjust.specs.declared.terms.Terms.{Terms}

@@ -1,14 +1,13 @@
-// The adjustment call over a lent list of sections. `gather` and `level_adjust` hold the lent list: they copy and call, and decide
-// nothing.
-ghost use Rattle.std.specs.Prelude.{◌≡◌, ◌≤◌, min, length};
-ghost use Rattle.records.specs.Answers.{number_of, answer_of};
-ghost use Rattle.adjust.specs.Sections.{sections_of};
+// The adjustment call over a lent list of legs.
+ghost use Rattle.std.specs.Prelude.{◌≡◌, ◌≤◌, length};
+ghost use Rattle.numbers.specs.Numbers.{filled};
+ghost use Rattle.adjust.specs.Sections.{no_section};
 ghost use Rattle.adjust.specs.Call.{adjust_refusal, heights_after};
-ghost use Rattle.adjust.specs.Legs.{leg_sections, gathered, leg_table};
+ghost use Rattle.adjust.specs.Legs.{leg_section, leg_sections};
 
-use super::Sections;
+use super::Section;
 use super::call::adjust;
-use records::Answer;
+use records::{Refusal, number_of};
 
 // A section as it is lent: its height difference Q in quarter mm, its distance R in half dm.
 #[repr(C)]
@@ -18,79 +17,41 @@ pub struct Leg {
     pub distance: i64,
 }
 
-// The count, and 64 where it is more.
-fn capped(count: usize) -> usize
-    ensures { result ≡ min count 64 }
-{
-    if count <= 64 {
-        return count;
-    }
-    64
-}
+// Under no number and with no discrepancy.
+impl From<Leg> for Section {
+    ghost from_gives = { λ x r. r ≡ leg_section x };
 
-// The first legs of the list by value, zeros behind them.
-#[tactic(auto, using(crate::proofs::Legs::gathered_next))]
-fn gather(legs: &[Leg], count: usize) -> [Leg; 64]
-    requires { (count ≤ length legs.now) × (count ≤ 64) }
-    ensures { result ≡ gathered legs.now count }
-{
-    let none = Leg {
-        height: 0,
-        distance: 0,
-    };
-    let mut table = [none; 64];
-    for k in 0..count {
-        table[k] = legs[k];
-    }
-    table
-}
-
-// The legs as sections in arrays, under no number and with no discrepancy.
-fn table_of(legs: [Leg; 64], count: usize) -> Sections
-    ensures { result ≡ leg_table legs count }
-{
-    let zeros = [0; 64];
-    let mut heights = zeros;
-    let mut distances = zeros;
-    for k in 0..64 {
-        heights[k] = legs[k].height;
-        distances[k] = legs[k].distance;
-    }
-    Sections {
-        count: count,
-        numbers: zeros,
-        heights: heights,
-        distances: distances,
-        discrepancies: zeros,
+    fn from(leg: Leg) -> Section {
+        Section {
+            height: leg.height,
+            distance: leg.distance,
+            ..Section::default()
+        }
     }
 }
 
-// Document 01's number of an answer by `number_of`, 0 for a call that is taken.
-pub fn number_of(a: Answer) -> u8
-    ensures { result ≡ number_of a }
+// The legs as sections, and zeros behind them.
+fn sections_from(legs: &[Leg]) -> [Section; 64]
+    requires { length legs.now ≤ 64 }
+    ensures { result ≡ filled no_section 64 (leg_sections legs.now) }
 {
-    match a {
-        Answer::Taken => 0,
-        Answer::Refused(n) => n,
+    let mut places = [Section::default(); 64];
+    for (k, leg) in legs.iter().enumerate() {
+        places[k] = Section::from(*leg);
     }
-}
-
-// The call on legs by value, of which `count` are lent: more than 64 are refused, whatever the table holds.
-fn adjust_legs(legs: [Leg; 64], count: usize, start: i64, end: i64, heights: &mut [i64]) -> u8
-    ensures { (result ≡ number_of (answer_of (adjust_refusal start end (sections_of (leg_table legs count)) (length heights.old))))
-        × (heights.new ≡ heights_after start end (sections_of (leg_table legs count)) heights.old) }
-{
-    number_of(adjust(start, end, table_of(legs, count), heights))
+    places
 }
 
 // The adjusted heights of the lent legs between two known heights, one a leg, into the lent list; the answer is document 01's number, 0 for a
-// call that is taken.
-#[tactic(auto, using(crate::proofs::Legs::gathers))]
+// call that is taken. More than 64 legs are refused before they are read.
+#[tactic(auto, using(crate::proofs::Legs::legs))]
 pub fn level_adjust(legs: &[Leg], start: i64, end: i64, heights: &mut [i64]) -> u8
-    ensures { (result ≡ number_of (answer_of (adjust_refusal start end (leg_sections legs.now) (length heights.old))))
-        × (heights.new ≡ heights_after start end (leg_sections legs.now) heights.old) }
+    ensures number { result ≡ adjust_refusal start end (leg_sections legs.now) (length heights.old) }
+    ensures heights { heights.new ≡ heights_after start end (leg_sections legs.now) heights.old }
 {
-    let count = legs.len();
-    let table = gather(legs, capped(count));
-    adjust_legs(table, count, start, end, heights)
+    if 64 < legs.len() {
+        return Refusal::SectionCount.number();
+    }
+    let places = sections_from(legs);
+    number_of(adjust(start, end, &places[..legs.len()], heights))
 }

@@ -1,19 +1,18 @@
 // Closing figures over the sections of a line, and the adjustment call.
 #![tactic(auto)]
 
-ghost use Rattle.std.specs.Prelude.{◌≡◌, []};
-ghost use Rattle.numbers.specs.Numbers.{filled};
-ghost use Rattle.adjust.specs.Sections.{sections_of, height_in_range};
-ghost use Rattle.adjust.specs.Frames.{no_point, figures_fit, line_totals, adjusted_of, line_figures};
-ghost use Rattle.adjust.specs.Line.{closing};
+ghost use Rattle.std.specs.Prelude.{◌≡◌, ◌≤◌, take};
+ghost use Rattle.adjust.specs.Sections.{sections_of, misfit, height_in_range};
+ghost use Rattle.adjust.specs.Frames.{figures_fit, line_totals, adjusted_of, line_figures};
+ghost use Rattle.adjust.specs.Line.{closing, verdict_number};
 ghost use Rattle.adjust.specs.code.Bounds.{Between, Fitted};
 
 mod accidental;
 pub mod call;
 pub mod entry;
 mod heights;
+mod ranges;
 mod sums;
-pub mod table;
 pub mod terms;
 
 use station::{Instrument, Staffs};
@@ -42,7 +41,7 @@ pub struct Opening {
 
 // A finished section: the benchmark that it ends on, its height difference Q in quarter mm, its distance R in half dm, and the discrepancy D
 // of its two runs in half mm, 0 for one run.
-#[derive(Clone, Copy)]
+#[derive(Clone, Copy, Default, PartialEq, Eq)]
 pub struct Section {
     pub number: i64,
     pub height: i64,
@@ -50,18 +49,33 @@ pub struct Section {
     pub discrepancy: i64,
 }
 
-// The sections of a line in arrays. Places from count on do not count.
+// The sections of a line in an array. Places from count on do not count.
 #[derive(Clone, Copy)]
 pub struct Sections {
     pub count: usize,
-    pub numbers: [i64; 64],
-    pub heights: [i64; 64],
-    pub distances: [i64; 64],
-    pub discrepancies: [i64; 64],
+    pub places: [Section; 64],
+}
+
+impl Sections {
+    // The sections as a list: no more than there are places.
+    #[tactic(auto, using(crate::proofs::Holding::listed))]
+    pub fn listed(&self) -> &[Section]
+        ensures places { result.now ≡ take self.now.count self.now.places }
+        ensures sections { self.now.count ≤ 64 → result.now ≡ sections_of self.now }
+    {
+        &self.places[..self.count.min(64)]
+    }
+
+    // Whether there are more than 64 sections, or one outside the wider range.
+    pub fn misfit(&self) -> bool
+        ensures { result ≡ misfit (sections_of self.now) }
+    {
+        (64 < self.count) | ranges::misfit(self.listed())
+    }
 }
 
 // A benchmark of the closed line: its distance from the start in half dm, the correction of the section before it in quarter mm, its height in mm.
-#[derive(Clone, Copy)]
+#[derive(Clone, Copy, Default, PartialEq, Eq)]
 pub struct Point {
     pub number: i64,
     pub distance: i64,
@@ -69,27 +83,42 @@ pub struct Point {
     pub height: i64,
 }
 
+// What is said of T: nothing below 20 sections and where they are levelled one way, otherwise whether it is within its limit.
+#[derive(Clone, Copy, Default, PartialEq, Eq)]
+pub enum Verdict {
+    #[default]
+    NotGiven,
+    Within,
+    Above,
+}
+
+impl Verdict {
+    // Its number in the report.
+    pub fn number(self) -> u8
+        ensures { result ≡ verdict_number self }
+    {
+        match self {
+            Verdict::NotGiven => 0,
+            Verdict::Within => 1,
+            Verdict::Above => 2,
+        }
+    }
+}
+
 // W in quarter mm, L in half dm, n, T in hundredths of mm² per km, and the verdict.
-#[derive(Clone, Copy)]
+#[derive(Clone, Copy, Default)]
 pub struct Summary {
     pub closure: i64,
     pub distance: i64,
     pub count: usize,
     pub accidental: i64,
-    pub verdict: u8,
+    pub verdict: Verdict,
 }
 
-// What is answered of a line: its summary, or that it is not adjusted, as where its figures do not fit.
-#[derive(Clone, Copy)]
-pub enum LineSummary {
-    Adjusted(Summary),
-    NotAdjusted,
-}
-
-// And its points: the start and one for each section, zeros behind them; none of a line that is not adjusted.
+// What is answered of a line that is adjusted: its summary and its points, the start and one for each section, zeros behind them.
 #[derive(Clone, Copy)]
 pub struct LineFigures {
-    pub answer: LineSummary,
+    pub summary: Summary,
     pub points: [Point; 65],
 }
 
@@ -115,13 +144,6 @@ pub struct Frame {
     pub total: i64,
 }
 
-// What is answered of the sections between two known heights: W and L, or that the figures do not fit.
-#[derive(Clone, Copy)]
-pub enum LineTotals {
-    Totalled(Totals),
-    NotTotalled,
-}
-
 // Whether a height is in document 01's range.
 pub fn height_in_range(h: i64) -> bool
     ensures { result ≡ height_in_range h }
@@ -130,75 +152,57 @@ pub fn height_in_range(h: i64) -> bool
 }
 
 // Whether there are 1 to 64 sections in the wider range, between heights in theirs: then all figures fit 64 bits.
-#[tactic(auto, using(crate::proofs::Lent::fitting_tests), unfolding(crate::specs::Frames::figures_fit))]
-fn figures_fit(start: i64, end: i64, s: Sections) -> bool
-    ensures { result ≡ figures_fit start end (sections_of s) }
+#[tactic(auto, unfolding(crate::specs::Frames::figures_fit))]
+fn figures_fit(start: i64, end: i64, sections: &[Section]) -> bool
+    ensures { result ≡ figures_fit start end sections.now }
 {
-    let misfit = table::misfits(s.count, &s.heights, &s.distances, &s.discrepancies);
-    (0 < s.count) & !misfit & height_in_range(start) & height_in_range(end)
+    !sections.is_empty() & !ranges::misfit(sections) & height_in_range(start) & height_in_range(end)
 }
 
 // W and L of the sections between two known heights, where `figures_fit`.
 #[tactic(auto, using(crate::proofs::Sized::fits), unfolding(crate::specs::Frames::line_totals))]
-pub fn totals_of(start: i64, end: i64, s: Sections) -> LineTotals
-    ensures { result ≡ line_totals start end (sections_of s) }
+pub fn totals_of(start: i64, end: i64, sections: &[Section]) -> Option<Totals>
+    ensures { result ≡ line_totals start end sections.now }
 {
-    if figures_fit(start, end, s) {
-        return LineTotals::Totalled(sums::totals_between(QUARTERS, start, end, s));
+    if figures_fit(start, end, sections) {
+        return Some(sums::totals_between(QUARTERS, start, end, sections));
     }
-    LineTotals::NotTotalled
+    None
 }
 
 // The closing of figures that fit.
-fn closing_of(opening: Opening, end: i64, s: Sections) -> LineFigures
-    requires { Between opening.start.height end s × Fitted s }
-    ensures { result ≡ adjusted_of (closing opening end (sections_of s)) }
+fn closing_of(opening: &Opening, end: i64, sections: &[Section]) -> LineFigures
+    requires { Between opening.now.start.height end sections.now × Fitted sections.now }
+    ensures { result ≡ adjusted_of (closing opening.now end sections.now) }
 {
-    let class = opening.class;
     let start = opening.start;
-    let terms = terms::terms_of(class);
-    let t = sums::totals_by(terms, sums::totals_between(QUARTERS, start.height, end, s));
-    let f = heights::frame_of(QUARTERS, WHOLES, start.height, t);
-    let accidental = accidental::accidental_sum(terms, 1, s);
-    let verdict = accidental::verdict_of(terms, s.count, accidental);
-    let points = heights::points_of(f, start.number, s);
+    let terms = opening.class.terms();
+    let t = sums::totals_by(
+        terms,
+        sums::totals_between(QUARTERS, start.height, end, sections),
+    );
+    let f = Frame::new(QUARTERS, WHOLES, start.height, t);
+    let accidental = accidental::accidental_sum(terms, 1, sections);
     let summary = Summary {
         closure: f.prints * f.closure,
         distance: f.total,
-        count: s.count,
-        accidental: accidental,
-        verdict: verdict,
+        count: sections.len(),
+        accidental,
+        verdict: accidental::verdict_of(terms, sections.len(), accidental),
     };
     LineFigures {
-        answer: LineSummary::Adjusted(summary),
-        points: points,
+        summary,
+        points: f.points(start.number, sections),
     }
 }
 
 // What closing the line gives, where `figures_fit`: W, L, n, T, the verdict and the points. Of a spur `end` is only held to its range.
 #[tactic(auto, using(crate::proofs::Sized::fits), unfolding(crate::specs::Frames::line_figures))]
-pub fn adjusted_line(opening: Opening, end: i64, s: Sections) -> LineFigures
-    ensures { result ≡ line_figures opening end (sections_of s) }
+pub fn adjusted_line(opening: &Opening, end: i64, sections: &[Section]) -> Option<LineFigures>
+    ensures { result ≡ line_figures opening.now end sections.now }
 {
-    if figures_fit(opening.start.height, end, s) {
-        return closing_of(opening, end, s);
+    if figures_fit(opening.start.height, end, sections) {
+        return Some(closing_of(opening, end, sections));
     }
-    let none = no_points();
-    LineFigures {
-        answer: LineSummary::NotAdjusted,
-        points: none,
-    }
-}
-
-// No points: zeros in every place.
-pub fn no_points() -> [Point; 65]
-    ensures { result ≡ filled no_point 65 [] }
-{
-    let none = Point {
-        number: 0,
-        distance: 0,
-        correction: 0,
-        height: 0,
-    };
-    [none; 65]
+    None
 }

@@ -6,7 +6,7 @@ use station::Order;
 
 // What a line is opened as.
 // A spur is of fourth order, levelled out and back from a known height to an end that is not known.
-#[derive(Clone, Copy)]
+#[derive(Clone, Copy, PartialEq, Eq)]
 pub enum Class {
     Third,
     Fourth,
@@ -38,50 +38,65 @@ pub struct Terms {
     pub accidental: i64,
 }
 
-// The order by whose limits the stations of a line are judged.
-pub fn order_of(class: Class) -> Order
-    ensures { result ≡ order_of class }
-{
-    match class {
-        Class::Third => Order::Third,
-        Class::Fourth => Order::Fourth,
-        Class::Spur => Order::Fourth,
+impl Class {
+    // The order by whose limits the stations of a line are judged.
+    pub fn order(self) -> Order
+        ensures { result ≡ order_of self }
+    {
+        match self {
+            Class::Third => Order::Third,
+            Class::Fourth => Order::Fourth,
+            Class::Spur => Order::Fourth,
+        }
+    }
+
+    // The table.
+    pub fn terms(self) -> Terms
+        ensures { result ≡ terms_of self }
+    {
+        match self {
+            Class::Third => Terms {
+                double: true,
+                tied: true,
+                apart: Root { a: 625, b: 18 },
+                closing: Root { a: 625, b: 72 },
+                longest: 3000000,
+                circuit: 4000000,
+                accidental: 3600,
+            },
+            // sections of one run have no D and no T: `apart` decides nothing, and there is no verdict
+            Class::Fourth => Terms {
+                double: false,
+                tied: true,
+                apart: Root { a: 625, b: 18 },
+                closing: Root { a: 25, b: 8 },
+                longest: 1600000,
+                circuit: 2000000,
+                accidental: 0,
+            },
+            // there is no closure and no limit of length: `closing`, `longest` and `circuit` decide nothing
+            Class::Spur => Terms {
+                double: true,
+                tied: false,
+                apart: Root { a: 25, b: 2 },
+                closing: Root { a: 25, b: 8 },
+                longest: 1600000,
+                circuit: 2000000,
+                accidental: 10000,
+            },
+        }
     }
 }
 
-// The table.
+// The same as functions, by which the crates above call them.
+pub fn order_of(class: Class) -> Order
+    ensures { result ≡ order_of class }
+{
+    class.order()
+}
+
 pub fn terms_of(class: Class) -> Terms
     ensures { result ≡ terms_of class }
 {
-    match class {
-        Class::Third => Terms {
-            double: true,
-            tied: true,
-            apart: Root { a: 625, b: 18 },
-            closing: Root { a: 625, b: 72 },
-            longest: 3000000,
-            circuit: 4000000,
-            accidental: 3600,
-        },
-        // sections of one run have no D and no T: `apart` decides nothing, and there is no verdict
-        Class::Fourth => Terms {
-            double: false,
-            tied: true,
-            apart: Root { a: 625, b: 18 },
-            closing: Root { a: 25, b: 8 },
-            longest: 1600000,
-            circuit: 2000000,
-            accidental: 0,
-        },
-        // there is no closure and no limit of length: `closing`, `longest` and `circuit` decide nothing
-        Class::Spur => Terms {
-            double: true,
-            tied: false,
-            apart: Root { a: 25, b: 2 },
-            closing: Root { a: 25, b: 8 },
-            longest: 1600000,
-            circuit: 2000000,
-            accidental: 10000,
-        },
-    }
+    class.terms()
 }

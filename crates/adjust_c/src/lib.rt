@@ -2,7 +2,6 @@
 #![tactic(auto)]
 
 ghost use Rattle.std.specs.Prelude.{◌≡◌, length};
-ghost use Rattle.records.specs.Answers.{number_of, answer_of};
 ghost use Rattle.adjust.specs.Call.{adjust_refusal, heights_after};
 ghost use Rattle.adjust.specs.Legs.{leg_sections};
 
@@ -12,8 +11,8 @@ use adjust::entry::Leg;
 // call that is taken.
 #[unsafe(no_mangle)]
 pub extern "C" fn level_adjust(legs: &[Leg], start: i64, end: i64, heights: &mut [i64]) -> u8
-    ensures { (result ≡ number_of (answer_of (adjust_refusal start end (leg_sections legs.now) (length heights.old))))
-        × (heights.new ≡ heights_after start end (leg_sections legs.now) heights.old) }
+    ensures number { result ≡ adjust_refusal start end (leg_sections legs.now) (length heights.old) }
+    ensures heights { heights.new ≡ heights_after start end (leg_sections legs.now) heights.old }
 {
     adjust::entry::level_adjust(legs, start, end, heights)
 }

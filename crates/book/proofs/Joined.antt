@@ -1,138 +1,171 @@
--- From what a call changes to the book that it leaves, and to its answer: one law for each, for every call.
+-- From what a call changes to the book that it leaves, one law for every call; what closing then gives; and that each call can be made of every book.
 use mathlib.Core.Path.{◌≡◌, refl, sym, ap, ◌∙◌}
 use mathlib.Core.Bool.{Bool, true, false, not, cond, ◌&&◌}
 use mathlib.Core.List.{List, [], ◌∷◌, ◌++◌}
-use Prim.Native.Nat.{◌+◌, ◌≤◌, ◌<◌}
+use Prim.Native.Nat.{◌≤◌, ◌<◌}
 use native.Mathlib.Omega.{arith}
-use lib.Dec.{leb, ltb, eqb, eqb→eq, ltb→lt, nleb→lt}
-use lib.ListN.{length, set}
-use lib.IntN.{ℤ}
+use borrow.Author.Rules.{rules}
 use borrow.Author.Tests.{lt-ltb}
-use Rattle.numbers.proofs.Tests.{by_test, holds, fails, and_r, not-false}
-use Rattle.records.specs.Answers.{number_of, answer_of}
+use lib.Dec.{leb, nleb→lt}
+use lib.ListN.{length}
+use lib.IntN.{ℤ}
+use Rattle.std.specs.Prelude.{Ok, Err, Some, None, IfOk}
+use Rattle.std.specs.declared.option.Option.{Option}
+use Rattle.std.specs.declared.result.Result.{Result}
+use Rattle.numbers.proofs.Tests.{fails, not-false}
+use Rattle.numbers.proofs.Tables.{each_number, first_each, zero_cond, nonzero_cond}
+use Rattle.records.specs.declared.Refusal.{Refusal}
+use Rattle.records.specs.Refusals.{number_of}
+use Rattle.records.proofs.Numbered.{not_zero, answered, is_answer, number_answered, value_answered}
 use Rattle.adjust.specs.declared.Section.{Section}
-use Rattle.adjust.specs.declared.Sections.{Sections}
+use Rattle.adjust.specs.declared.LineFigures.{LineFigures}
 use Rattle.adjust.specs.Sections.{sections_of, holding}
+use Rattle.adjust.specs.Frames.{adjusted_of}
 use Rattle.adjust.specs.Terms.{terms_of}
-use Rattle.adjust.proofs.Refused.{number_of_answer}
-use Rattle.adjust.proofs.Lists.{from_length}
-use Rattle.adjust.proofs.Holding.{Places, holding_own, holding_more}
+use Rattle.adjust.proofs.Holding.{Places, sections_count, sections_holding, stored, holding_own, holding_more}
+use Rattle.rules.specs.declared.Outward.{Outward}
 use Rattle.rules.specs.declared.Line.{Line}
 use Rattle.rules.specs.declared.Book.{Book}
-use Rattle.rules.specs.declared.Waiting.{Waiting}
-use Rattle.rules.specs.declared.Waiting.TheVariants.{Nothing, Outward}
 use Rattle.rules.specs.LineState.{LineState, state_of, book_with, is_fresh, is_return, outward_or_return, no_run, one_way, both_ways}
-use Rattle.rules.specs.Rules.{Call, open_line, station, end_run, drop_run, drop_section, close_line, open_spur, close_spur, collimation, with_runs, with_section, book_refusal, taken}
+use Rattle.rules.specs.Rules.{Call, open_line, station, end_run, drop_run, drop_section, close_line, open_spur, close_spur, collimation, with_runs, with_section, figures_tests, book_tests, book_refusal, taken}
 use Rattle.rules.proofs.Tables.{book_fails, line_unbroken}
-use Rattle.rules.proofs.Unbroken.{SmallWaiting, Unbroken, unbroken, fresh_none}
-use Rattle.rules.proofs.Looked.{counted_broken}
+use Rattle.rules.proofs.Unbroken.{SmallWaiting, fresh_none}
 use Rattle.changes.specs.declared.Change.{Change}
-use Rattle.changes.proofs.Joined.{ended_by}
-use Rattle.book.specs.declared.Step.{Step}
+use Rattle.changes.specs.Changes as Changes
+use Rattle.changes.specs.Changes.{first, effect_of, Decides, changed}
+use Rattle.changes.proofs.Joined.{book_unbroken}
 use Rattle.book.specs.declared.Outcome.{Outcome}
-use Rattle.book.specs.Calls.{book_after, step_of, outcome, Answers}
-use Rattle.changes.specs.code.Changes.{line_only, effect_of, change_of, stores, stored_in}
-use Rattle.book.specs.code.Changes.{with_change, changed}
-
--- ---- a section that is stored
-
-pub stored_sections : (s : Sections) (x : Change) → Places s
-    → record {
-      count = cond (stores x s.count) (s.count + 1) s.count;
-      numbers = stored_in x s.count s.numbers x.section.number;
-      heights = stored_in x s.count s.heights x.section.height;
-      distances = stored_in x s.count s.distances x.section.distance;
-      discrepancies = stored_in x s.count s.discrepancies x.section.discrepancy;
-    }
-    ≡ with_change s x
-stored_sections s x w = go (stores x s.count) refl
-  where
-    go : (t : Bool) → stores x s.count ≡ t
-        → record {
-          count = cond t (s.count + 1) s.count;
-          numbers = cond t (set s.numbers s.count x.section.number) s.numbers;
-          heights = cond t (set s.heights s.count x.section.height) s.heights;
-          distances = cond t (set s.distances s.count x.section.distance) s.distances;
-          discrepancies = cond t (set s.discrepancies s.count x.section.discrepancy) s.discrepancies;
-        }
-        ≡ cond t (holding s (sections_of s ++ (x.section ∷ []))) s
-    go true e = sym (holding_more s x.section w (ltb→lt s.count 64 (holds (and_r x.finishes (ltb s.count 64) e))))
-    go false e = refl
-
--- ---- a call that is taken finds the line unbroken
-
-pub book_unbroken : (b : Book) (c : Call) → book_refusal (state_of b) c ≡ 0 → Unbroken b.line b.sections.count
-book_unbroken b c e = unbroken b.line b.sections.count (sym (counted_broken b.line b.sections) ∙ line_unbroken (state_of b) c e)
+use Rattle.book.specs.Calls.{book_after, Answers, closing_of, closed_by, Closes, figures_refusal, Tells}
+use Rattle.book.specs.code.Made.{Makes}
 
 -- ---- the book with the change made is the book that the call leaves
-
-taken_number : (l : Line) (c : Call) → (effect_of l c).number ≡ 0
-unfolding effect_of
-taken_number l c = refl
 
 module _ (b : Book) (w : Places b.sections) where
   abbrev ss : List Section
   ss = sections_of b.sections
 
-  -- a change of the line alone keeps arrays that hold their own list
+  -- a change of the line alone keeps an array that holds its own list
   line_alone : (v : LineState) → b.sections.count ≤ 64 → ss ≡ v.sections → record { line = v.line; sections = b.sections } ≡ book_with b v
   line_alone v h e = λ i. record { line = v.line; sections = (sym (holding_own b.sections w h) ∙ ap (holding b.sections) e) i }
 
-  -- the end of a run, by what waits and by whether sections are levelled out and back
-  ended : (number : ℤ) (x : Waiting) (t : Bool) → b.sections.count < 64
-      → changed b (ended_by b.line number x t)
-      ≡ book_with b (outward_or_return x (cond t (record { line = with_runs b.line (Outward number b.line.present) no_run; sections = ss })
-      (with_section (state_of b) (one_way number b.line.present)))
-      (λ outward run. with_section (state_of b) (both_ways outward run b.line.present)))
-  ended number Nothing true h = line_alone (record { line = with_runs b.line (Outward number b.line.present) no_run; sections = ss }) (omega arith) refl
-  ended number Nothing false h =
-      λ i. record { line = with_runs b.line Nothing no_run; sections = cond (lt-ltb b.sections.count 64 h i) (holding b.sections (ss ++ (one_way number b.line.present ∷ []))) b.sections }
-  ended number (Outward outward run) t h =
-      λ i. record { line = with_runs b.line Nothing no_run; sections = cond (lt-ltb b.sections.count 64 h i) (holding b.sections (ss ++ (both_ways outward run b.line.present ∷ []))) b.sections }
+  -- one section more
+  one_more : (x : Section) → b.sections.count < 64 → Changes.with_section b.sections (Some x) ≡ holding b.sections (ss ++ (x ∷ []))
+  one_more x h = ap (λ (t : Bool). cond t (stored b.sections x) b.sections) (lt-ltb b.sections.count 64 h) ∙ sym (holding_more b.sections x w h)
+
+  -- the end of a run, beside the sections xs, by what waits and by whether sections are levelled out and back
+  abbrev ended : ℤ → List Section → Option Outward → Bool → LineState
+  ended number xs x t =
+      let l : Line = b.line in
+      let v : LineState = record { line = l; sections = xs } in
+      outward_or_return x
+      (cond t (record { line = with_runs l (Some (record { number = number; run = l.present })) no_run; sections = xs })
+      (with_section v (one_way number l.present)))
+      (λ outward run. with_section v (both_ways outward run l.present))
+
+  ended_made : (number : ℤ) (x : Option Outward) (t : Bool) → b.sections.count < 64
+      → changed b (record { line = (ended number [] x t).line; section = first (ended number [] x t).sections }) ≡ book_with b (ended number ss x t)
+  ended_made number None true h = line_alone (ended number ss None true) (omega arith) refl
+  ended_made number None false h = λ i. record { line = with_runs b.line None no_run; sections = one_more (one_way number b.line.present) h i }
+  ended_made number (Some x) t h = λ i. record { line = with_runs b.line None no_run; sections = one_more (both_ways x.number x.run b.line.present) h i }
 
   -- there is room for the section: an outward run is tested (31), and a run waits only where there is
-  room : (x : Waiting) → SmallWaiting x b.sections.count → not (is_return x) && leb 64 (length ss) ≡ false → b.sections.count < 64
-  room Nothing h e = omega (arith, from_length b.sections 0 b.sections.count, nleb→lt 64 (length ss) (fails e))
-  room (Outward outward run) h e = h.1
+  room : (x : Option Outward) → SmallWaiting x b.sections.count → not (is_return x) && leb 64 (length ss) ≡ false → b.sections.count < 64
+  room None h e = omega (arith, sections_count b.sections, nleb→lt 64 (length ss) (fails e))
+  room (Some x) h e = h.1
+
+  -- of a call that leaves the sections as they are
+  alone : (c : Call) → book_refusal (state_of b) c ≡ 0 → ss ≡ (taken (state_of b) c).sections
+      → record { line = (taken (state_of b) c).line; sections = b.sections } ≡ book_with b (taken (state_of b) c)
+  alone c e s = line_alone (taken (state_of b) c) (book_unbroken b c e).few s
+
+  -- a book that is opened has no section
+  none : (c : Call) → book_refusal (state_of b) c ≡ 0 → not (is_fresh b.line.stage) ≡ false → ss ≡ []
+  none c e f = fresh_none b.line ss (line_unbroken (state_of b) c e) (not-false (is_fresh b.line.stage) f)
 
   effect : (c : Call) → book_refusal (state_of b) c ≡ 0 → changed b (effect_of b.line c) ≡ book_with b (taken (state_of b) c)
   unfolding effect_of
   effect (open_line order instrument number height) e =
-      let c = open_line order instrument number height in
-      let fresh = not-false (is_fresh b.line.stage) (book_fails (state_of b) c e 21) in
-      line_alone (taken (state_of b) c) (book_unbroken b c e).few (fresh_none b.line ss (line_unbroken (state_of b) c e) fresh)
-  effect (station kb kf readings) e = line_alone (taken (state_of b) (station kb kf readings)) (book_unbroken b (station kb kf readings) e).few refl
+      let c = open_line order instrument number height in alone c e (none c e (book_fails (state_of b) c e 21))
+  effect (station kb kf readings) e = alone (station kb kf readings) e refl
   effect (end_run number) e =
-      ended number b.line.waiting (terms_of b.line.opening.class).double (room b.line.waiting (book_unbroken b (end_run number) e).waiting (book_fails (state_of b) (end_run number) e 31))
-  effect drop_run e = line_alone (taken (state_of b) drop_run) (book_unbroken b drop_run e).few refl
-  effect drop_section e = line_alone (taken (state_of b) drop_section) (book_unbroken b drop_section e).few refl
+      ended_made number b.line.waiting (terms_of b.line.opening.class).double
+      (room b.line.waiting (book_unbroken b (end_run number) e).waiting (book_fails (state_of b) (end_run number) e 31))
+  effect drop_run e = alone drop_run e refl
+  effect drop_section e = alone drop_section e refl
   effect (open_spur order instrument number height) e =
-      let c = open_spur order instrument number height in
-      let fresh = not-false (is_fresh b.line.stage) (book_fails (state_of b) c e 21) in
-      line_alone (taken (state_of b) c) (book_unbroken b c e).few (fresh_none b.line ss (line_unbroken (state_of b) c e) fresh)
-  effect (collimation x) e = line_alone (taken (state_of b) (collimation x)) (book_unbroken b (collimation x) e).few refl
-  effect (close_spur number) e = line_alone (taken (state_of b) (close_spur number)) (book_unbroken b (close_spur number) e).few refl
-  effect (close_line number end) e = line_alone (taken (state_of b) (close_line number end)) (book_unbroken b (close_line number end) e).few refl
+      let c = open_spur order instrument number height in alone c e (none c e (book_fails (state_of b) c e 21))
+  effect (collimation x) e = alone (collimation x) e refl
+  effect (close_spur number) e = alone (close_spur number) e refl
+  effect (close_line number end) e = alone (close_line number end) e refl
 
-  pub made : (c : Call) → changed b (change_of b c) ≡ book_after b c
-  unfolding book_after
-  made c =
-      let n = book_refusal (state_of b) c in
-      by_test (eqb n 0) (λ t. changed b (cond t (effect_of b.line c) (line_only n b.line)) ≡ cond t (book_with b (taken (state_of b) c)) b)
-      (λ t. effect c (eqb→eq n 0 t)) (λ t. refl)
+-- a change that was decided and made
+pub made : (b : Book) (c : Call) (decided : Result Change Refusal) {r : Result (Unit {0}) Refusal} {d : Book} → Decides b c decided → Makes b decided r d
+    → Answers b c (record { answer = r; book = d })
+unfolding book_after
+made b c (Ok x) p m =
+    record {
+      number = m.number ∙ p.number;
+      book =
+          m.book.0
+          ∙ ap (changed b) p.change
+          ∙ effect b m.book.1 c (sym p.number)
+          ∙ sym (zero_cond (book_refusal (state_of b) c) (book_with b (taken (state_of b) c)) b (sym p.number));
+    }
+made b c (Err e) p m =
+    record {
+      number = m.number ∙ p.number;
+      book = m.book ∙ sym (nonzero_cond (book_refusal (state_of b) c) (book_with b (taken (state_of b) c)) b (λ z. not_zero e (p.number ∙ z)));
+    }
 
-  pub step_made : (c : Call) {x : Change} → x ≡ change_of b c → record { number = x.number; book = changed b x } ≡ step_of b c
-  step_made c e =
-      let n = book_refusal (state_of b) c in
-      let number = by_test (eqb n 0) (λ t. (cond t (effect_of b.line c) (line_only n b.line)).number ≡ n) (λ t. taken_number b.line c ∙ sym (eqb→eq n 0 t)) (λ t. refl) in
-      (λ i. record { number = (e i).number; book = changed b (e i) }) ∙ (λ i. record { number = number i; book = made c i })
+-- ---- what a closing gives
 
--- ---- what an outcome answers
+-- the book that a call leaves, where it is taken
+pub left : (b : Book) (c : Call) → book_refusal (state_of b) c ≡ 0 → state_of (book_after b c) ≡ taken (state_of b) c
+unfolding book_after
+left b c e =
+    ap state_of (zero_cond (book_refusal (state_of b) c) (book_with b (taken (state_of b) c)) b e)
+    ∙ (λ i. record { line = (taken (state_of b) c).line; sections = sections_holding b.sections (taken (state_of b) c).sections i })
 
-pub answers_as : (b : Book) (c : Call) {r : Outcome} → r ≡ outcome b c → Answers b c r
-unfolding outcome
-answers_as b c e = (e, ap (λ (o : Outcome). number_of o.answer) e ∙ number_of_answer (book_refusal (state_of b) c))
+-- the figures of the book that was left
+pub closes : (b : Book) (c : Call) {r : Outcome (Unit {0})} (o : Outcome LineFigures) → Answers b c r → number_of o.answer ≡ number_of r.answer
+    → IfOk o.answer (λ (f : LineFigures). f ≡ adjusted_of (closing_of (state_of r.book))) → o.book ≡ r.book → Closes b c o
+closes b c {r} o h n f e = record { number = n ∙ h.number; figures = told o.answer (n ∙ h.number) f; book = e ∙ h.book }
+  where
+    told : (a : Result LineFigures Refusal) → number_of a ≡ book_refusal (state_of b) c → IfOk a (λ (f : LineFigures). f ≡ adjusted_of (closing_of (state_of r.book)))
+        → IfOk a (λ (f : LineFigures). f ≡ adjusted_of (closed_by b c))
+    told (Ok g) n f = f ∙ ap (λ (v : LineState). adjusted_of (closing_of v)) (ap state_of h.book ∙ left b c (sym n))
+    told (Err x) n f = tt
 
-pub step_answers : (b : Book) {c d : Call} → d ≡ c → {s : Step} {r : Outcome} → s ≡ step_of b d → r ≡ record { answer = answer_of s.number; book = s.book } → Answers b c r
-unfolding outcome
-step_answers b {c} same t e = answers_as b c (e ∙ ap (λ (x : Step). record { answer = answer_of x.number; book = x.book }) (t ∙ ap (step_of b) same))
+-- ---- each call can be made of every book: there is an answer under each number
+
+answers : (v : LineState) (c : Call) → each_number is_answer (book_tests v c) ≡ true
+answers v (open_line order instrument number height) = search rules
+answers v (station kb kf readings) = search rules
+answers v (end_run number) = search rules
+answers v drop_run = search rules
+answers v drop_section = search rules
+answers v (close_line number end) = search rules
+answers v (open_spur order instrument number height) = search rules
+answers v (close_spur number) = search rules
+answers v (collimation x) = search rules
+
+given : {A : Type 0} (v : LineState) (c : Call) (a : A) → number_of (answered (book_refusal v c) a) ≡ book_refusal v c
+unfolding book_refusal
+given v c a = number_answered (book_refusal v c) a (first_each is_answer (book_tests v c) (answers v c) refl)
+
+pub outcome_made : (b : Book) (c : Call) → (r : Outcome (Unit {0})) × Answers b c r
+outcome_made b c =
+    (record { answer = answered (book_refusal (state_of b) c) tt; book = book_after b c }, record { number = given (state_of b) c tt; book = refl })
+
+pub closing_made : (b : Book) (c : Call) → (r : Outcome LineFigures) × Closes b c r
+closing_made b c =
+    let n = book_refusal (state_of b) c in
+    let f : LineFigures = adjusted_of (closed_by b c) in
+    (record { answer = answered n f; book = book_after b c }, record { number = given (state_of b) c f; figures = value_answered n f; book = refl })
+
+pub figures_made : (b : Book) → (r : Result LineFigures Refusal) × Tells b r
+figures_made b =
+    let n = figures_refusal b in
+    let f : LineFigures = adjusted_of (closing_of (state_of b)) in
+    let known : each_number is_answer (figures_tests (state_of b)) ≡ true = search rules in
+    (answered n f, record { number = number_answered n f (first_each is_answer (figures_tests (state_of b)) known refl); figures = value_answered n f })

@@ -1,80 +1,134 @@
--- What a call changes, by its refusal and its effect: one law for every call.
+-- From what the parts of a call answer to what it makes of a book: an opening by what its numbers name, a station by what is read, and a call that is taken finds the line unbroken.
 use mathlib.Core.Path.{◌≡◌, refl, sym, ap, subst, ◌∙◌}
-use mathlib.Core.Bool.{Bool, not, cond}
-use mathlib.Core.List.{List, []}
+use mathlib.Core.Bool.{Bool, true, false, not, cond, ◌&&◌, ◌||◌}
+use mathlib.Core.List.{List, ◌∷◌}
 use Prim.Native.Nat.{ℕ}
+use native.Mathlib.Omega.{arith}
 use lib.Dec.{eqb}
-use lib.ListN.{get_or}
-use lib.IntN.{ℤ}
+use lib.ListN.{length}
+use lib.IntN.{ℤ, pos}
 use mir.Syntax.{w64}
 use mir.Val.{SFits}
-use Rattle.numbers.proofs.Tables.{zero_cond, nonzero_cond}
-use Rattle.numbers.proofs.Machine.{stored, stored_id, stored_both}
-use Rattle.adjust.specs.Terms.{terms_of}
-use Rattle.rules.specs.declared.Line.{Line}
-use Rattle.rules.specs.declared.Waiting.{Waiting}
-use Rattle.rules.specs.declared.Waiting.TheVariants.{Outward}
-use Rattle.rules.specs.LineState.{LineState, is_empty, outward_or_return, no_run, one_way, both_ways}
-use Rattle.rules.specs.Rules.{Call, open_line, station, end_run, close_line, open_spur, close_spur, with_runs, with_section, book_refusal, taken}
+use Rattle.std.specs.Prelude.{Ok, Err, Some, None, MatchOption, IfOk, ⊤}
+use Rattle.std.specs.declared.option.Option.{Option}
+use Rattle.std.specs.declared.result.Result.{Result}
+use Rattle.numbers.specs.Numbers.{eq_z}
+use Rattle.numbers.specs.Tables.{first_of}
+use Rattle.numbers.proofs.Machine.{stored, stored_both}
+use Rattle.numbers.proofs.Tables.{first_append, zero_cond, nonzero_cond}
+use Rattle.records.specs.declared.Refusal.{Refusal}
+use Rattle.records.specs.Refusals.{refusal_number, number_of}
+use Rattle.station.specs.declared.Instrument.{Instrument}
+use Rattle.station.specs.declared.Instrument.TheVariants.{Ds3, Ds1}
+use Rattle.station.specs.declared.Figures.{Figures}
+use Rattle.station.specs.Station.{station_of, figures_of, reading_refusal, Reads}
+use Rattle.station.proofs.Answered.{of_station, of_refused}
+use Rattle.adjust.specs.declared.terms.Class.{Class}
+use Rattle.adjust.specs.declared.terms.Class.TheVariants.{Third, Fourth, Spur}
+use Rattle.adjust.specs.Sections.{sections_of}
+use Rattle.adjust.proofs.Holding.{sections_count}
+use Rattle.rules.specs.declared.Book.{Book}
+use Rattle.rules.specs.LineState.{state_of}
+use Rattle.rules.specs.Rules.{Call, open_line, open_spur, station, end_run, class_of, instrument_of, broken, input_tests, state_tests, book_station_tests, book_refusal}
+use Rattle.rules.specs.code.Bounds.{SmallRuns}
+use Rattle.rules.specs.code.Opened.{class_named, spur_named, instrument_named, start_refusal, open_refusal}
+use Rattle.rules.proofs.Tables.{tables, line_unbroken}
+use Rattle.rules.proofs.Unbroken.{Unbroken, unbroken, small_runs}
 use Rattle.changes.specs.declared.Change.{Change}
-use Rattle.changes.specs.code.Changes.{zero_section, line_only, line_change, effect_of, change_by}
+use Rattle.changes.specs.Changes.{effect_of, opened, Decides}
 
--- ---- the end of a run
+-- ---- a call that is taken finds the line unbroken
 
--- what it changes, by what waits and by whether sections are levelled out and back
-abbrev pub ended_by : Line → ℤ → Waiting → Bool → Change
-ended_by l number w t =
-    let v : LineState =
-    outward_or_return w
-    (cond t (record { line = with_runs l (Outward number l.present) no_run; sections = [] }) (with_section (record { line = l; sections = [] }) (one_way number l.present)))
-    (λ outward run. with_section (record { line = l; sections = [] }) (both_ways outward run l.present)) in
-    record { number = 0; line = v.line; finishes = not (is_empty v.sections); section = get_or v.sections 0 zero_section }
+pub book_unbroken : (b : Book) (c : Call) → book_refusal (state_of b) c ≡ 0 → Unbroken b.line b.sections.count
+book_unbroken b c e =
+    subst (λ (n : ℕ). Unbroken b.line n) (sections_count b.sections) (unbroken b.line (length (sections_of b.sections)) (line_unbroken (state_of b) c e))
 
-pub as_effect : (l : Line) (number : ℤ) {w : Waiting} {t : Bool} → l.waiting ≡ w → (terms_of l.opening.class).double ≡ t → ended_by l number w t ≡ effect_of l (end_run number)
-unfolding effect_of
-as_effect l number e f = λ i. ended_by l number (sym e i) (sym f i)
+-- and its runs small
+pub small_ends : (b : Book) (number : ℤ) → 0 ≡ book_refusal (state_of b) (end_run number) → SmallRuns b.line.waiting b.line.present
+small_ends b number e = small_runs b.line b.sections.count (book_unbroken b (end_run number) (sym e))
 
--- ---- a call of numbers that fit, as the machine reads it back
+-- ---- opening, by what the call's numbers name
 
-pub open_as : {order instrument number height : ℤ} → SFits w64 order → SFits w64 instrument → SFits w64 number → SFits w64 height
-    → open_line (stored order) (stored instrument) (stored number) (stored height) ≡ open_line order instrument number height
-open_as o k n h = λ i. open_line (stored_id o i) (stored_id k i) (stored_id n i) (stored_id h i)
+module _ (b : Book) (number height : ℤ) where
+  -- what is answered of a class and an instrument
+  abbrev Opens : Option Class → Option Instrument → Result Change Refusal → Type 0
+  Opens y z r =
+      (number_of r ≡ open_refusal (state_of b) y z number height)
+      × MatchOption y ⊤ (λ (class : Class). MatchOption z ⊤ (λ (instrument : Instrument). IfOk r (λ (x : Change). x ≡ opened class instrument number height)))
 
-pub spur_as : {order instrument number height : ℤ} → SFits w64 order → SFits w64 instrument → SFits w64 number → SFits w64 height
-    → open_spur (stored order) (stored instrument) (stored number) (stored height) ≡ open_spur order instrument number height
-spur_as o k n h = λ i. open_spur (stored_id o i) (stored_id k i) (stored_id n i) (stored_id h i)
+  -- a refusal gives nothing
+  nothing : (P : Change → Type 0) (r : Result Change Refusal) → number_of r ≡ 3 → IfOk r P
+  nothing P (Ok x) e = absurd (omega (arith, e))
+  nothing P (Err x) e = tt
 
+  by_names : (s t : Bool) (y : Class) (z : Instrument) (r : Result Change Refusal) → Opens (cond s (Some y) None) (cond t (Some z) None) r
+      → (number_of r ≡ cond (not (s && t)) 3 (start_refusal (state_of b) number height)) × IfOk r (λ (x : Change). x ≡ opened y z number height)
+  by_names true true y z r h = h
+  by_names true false y z r h = (h.0, nothing (λ (x : Change). x ≡ opened y z number height) r h.0)
+  by_names false t y z r h = (h.0, nothing (λ (x : Change). x ≡ opened y z number height) r h.0)
+
+  line_class : (o : ℤ) → class_named o ≡ cond (eq_z o (pos 3) || eq_z o (pos 4)) (Some (class_of o)) None
+  line_class o = go (eq_z o (pos 3)) (eq_z o (pos 4))
+    where
+      go : (a b : Bool) → cond a (Some Third) (cond b (Some Fourth) None) ≡ cond (a || b) (Some (cond a Third Fourth)) None
+      go true b = refl
+      go false true = refl
+      go false false = refl
+
+  instrument : (k : ℤ) → instrument_named k ≡ cond (eq_z k (pos 1) || eq_z k (pos 3)) (Some (instrument_of k)) None
+  instrument k = go (eq_z k (pos 3)) (eq_z k (pos 1))
+    where
+      go : (a b : Bool) → cond a (Some Ds3) (cond b (Some Ds1) None) ≡ cond (b || a) (Some (cond a Ds3 Ds1)) None
+      go true true = refl
+      go true false = refl
+      go false true = refl
+      go false false = refl
+
+  -- with what the two numbers o and k name
+  pub opens_line : (o k : ℤ) {y : Option Class} {z : Option Instrument} (r : Result Change Refusal) → y ≡ class_named o → z ≡ instrument_named k → Opens y z r
+      → Decides b (open_line o k number height) r
+  unfolding book_refusal effect_of
+  opens_line o k r p q h =
+      let d =
+      by_names (eq_z o (pos 3) || eq_z o (pos 4)) (eq_z k (pos 1) || eq_z k (pos 3)) (class_of o) (instrument_of k) r
+      (subst (λ (n : Option Class × Option Instrument). Opens n.0 n.1 r) (λ i. ((p ∙ line_class o) i, (q ∙ instrument k) i)) h) in
+      record { number = d.0; change = d.1 }
+
+  pub opens_spur : (o k : ℤ) {y : Option Class} {z : Option Instrument} (r : Result Change Refusal) → y ≡ spur_named o → z ≡ instrument_named k → Opens y z r
+      → Decides b (open_spur o k number height) r
+  unfolding book_refusal effect_of
+  opens_spur o k r p q h =
+      let d =
+      by_names (eq_z o (pos 4)) (eq_z k (pos 1) || eq_z k (pos 3)) Spur (instrument_of k) r
+      (subst (λ (n : Option Class × Option Instrument). Opens n.0 n.1 r) (λ i. (p i, (q ∙ instrument k) i)) h) in
+      record { number = d.0; change = d.1 }
+
+-- ---- a station, by what is read
+
+-- of constants that fit, as the machine reads them back
 pub station_as : {kb kf : ℤ} (readings : List (List ℤ)) → SFits w64 kb → SFits w64 kf → station (stored kb) (stored kf) readings ≡ station kb kf readings
 station_as readings b f = stored_both (λ kb kf. station kb kf readings) b f
 
-pub end_as : {number : ℤ} → SFits w64 number → end_run (stored number) ≡ end_run number
-end_as n = ap end_run (stored_id n)
+module _ (b : Book) (kb kf : ℤ) (readings : List (List ℤ)) where
+  parts : book_refusal (state_of b) (station kb kf readings)
+      ≡ cond (eqb (reading_refusal kb kf readings) 0)
+      (first_of (book_station_tests (state_of b) kb (figures_of b.line.opening.staffs (station_of kb kf readings)))) (reading_refusal kb kf readings)
+  unfolding book_refusal reading_refusal
+  parts =
+      let c : Call = station kb kf readings in
+      first_append (input_tests c) ((20, broken (state_of b) c) ∷ state_tests (state_of b) c) (tables (state_of b) c).inputs
 
-pub close_as : {number end : ℤ} → SFits w64 number → SFits w64 end → close_line (stored number) (stored end) ≡ close_line number end
-close_as n e = stored_both close_line n e
+  -- refused for its readings
+  pub read_refused : (e : Refusal) → Reads b.line.opening.staffs kb kf readings (Err e) → refusal_number e ≡ book_refusal (state_of b) (station kb kf readings)
+  read_refused e h =
+      let r = of_refused b.line.opening.staffs kb kf readings e h in
+      r.0 ∙ sym (parts ∙ nonzero_cond (reading_refusal kb kf readings) _ (reading_refusal kb kf readings) r.1)
 
-pub close_spur_as : {number : ℤ} → SFits w64 number → close_spur (stored number) ≡ close_spur number
-close_spur_as n = ap close_spur (stored_id n)
-
--- one without numbers
-pub plain : (c : Call) → c ≡ c
-plain c = refl
-
--- ---- what a call c, which is read back as d, changes of a line, by the number that v gives
-
-module _ (v : LineState) (l : Line) {c d : Call} (same : d ≡ c) {code : ℕ} (e : code ≡ book_refusal v d) where
-  pub change_refused : {x : Change} → (code ≡ 0 → ⊥) → x ≡ line_only code l → x ≡ change_by (book_refusal v c) l c
-  change_refused {x} f m =
-      subst (λ (k : Call). x ≡ change_by (book_refusal v k) l k) same
-      (m ∙ sym (nonzero_cond code (effect_of l d) (line_only code l) f) ∙ ap (λ (n : ℕ). change_by n l d) e)
-
-  pub change_taken : {x : Change} → code ≡ 0 → x ≡ effect_of l d → x ≡ change_by (book_refusal v c) l c
-  change_taken {x} z m =
-      subst (λ (k : Call). x ≡ change_by (book_refusal v k) l k) same
-      (m ∙ sym (zero_cond code (effect_of l d) (line_only code l) z) ∙ ap (λ (n : ℕ). change_by n l d) e)
-
-  -- of one that only leaves another line where it is taken
-  pub change_made : {next : Line} {x : Change} → line_only 0 next ≡ effect_of l d → x ≡ line_change code l next → x ≡ change_by (book_refusal v c) l c
-  change_made {next} {x} m k =
-      subst (λ (k : Call). x ≡ change_by (book_refusal v k) l k) same
-      (k ∙ (λ i. cond (eqb code 0) (m i) (line_only code l)) ∙ ap (λ (n : ℕ). change_by n l d) e)
+  -- read: the number n of its figures is the call's
+  pub read_number : (f : Figures) {n : ℕ} → Reads b.line.opening.staffs kb kf readings (Ok f) → n ≡ first_of (book_station_tests (state_of b) kb f)
+      → n ≡ book_refusal (state_of b) (station kb kf readings)
+  read_number f {n} h e =
+      let r = of_station b.line.opening.staffs kb kf readings h in
+      e
+      ∙ ap (λ (g : Figures). first_of (book_station_tests (state_of b) kb g)) r.1
+      ∙ sym (parts ∙ zero_cond (reading_refusal kb kf readings) _ (reading_refusal kb kf readings) r.0)

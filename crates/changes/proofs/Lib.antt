@@ -1,2 +1,2 @@
--- What the proofs of functions and the crates above cite: how a call's refusal and effect are joined.
+-- What the proofs of functions cite: a call's refusal in its parts, and what a call that is taken finds of the line.
 pub mod Joined

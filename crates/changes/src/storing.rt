@@ -1,35 +1,22 @@
-// A change's section goes into the lists.
-ghost use Rattle.std.specs.Prelude.{◌≡◌, cond, ◌+◌};
-ghost use Rattle.changes.specs.code.Changes.{stores, stored_in};
+// A change is made of a book.
+ghost use Rattle.std.specs.Prelude.{◌≡◌, length};
+ghost use Rattle.changes.specs.Changes.{changed};
 
 use super::Change;
+use rules::Book;
 
-// A section that is finished goes into its place of the lent lists, where there is one. Answers how many sections there are then.
-pub fn store(
-    c: Change,
-    count: usize,
-    numbers: &mut [i64; 64],
-    heights: &mut [i64; 64],
-    distances: &mut [i64; 64],
-    discrepancies: &mut [i64; 64],
-) -> usize
-    ensures { (result ≡ cond (stores c count) (count + 1) count)
-        × ((numbers.new ≡ stored_in c count numbers.old c.section.number)
-        × ((heights.new ≡ stored_in c count heights.old c.section.height)
-        × ((distances.new ≡ stored_in c count distances.old c.section.distance)
-        × (discrepancies.new ≡ stored_in c count discrepancies.old c.section.discrepancy)))) }
+// A section that is finished goes into its place, where there is one. `places` tells callers what the type of a lent book says of its array.
+pub fn store(b: &mut Book, change: &Change)
+    ensures book { b.new ≡ changed b.old change.now }
+    ensures places { length b.old.sections.places ≡ 64 }
 {
-    if c.finishes & (count < 64) {
-        let section = c.section;
-        let number = section.number;
-        let height = section.height;
-        let distance = section.distance;
-        let discrepancy = section.discrepancy;
-        numbers[count] = number;
-        heights[count] = height;
-        distances[count] = distance;
-        discrepancies[count] = discrepancy;
-        return count + 1;
+    b.line = change.line;
+    let count = b.sections.count;
+    let places = &mut b.sections.places[..];
+    if let Some(section) = change.section
+        && count < places.len()
+    {
+        places[count] = section;
+        b.sections.count = count + 1;
     }
-    count
 }

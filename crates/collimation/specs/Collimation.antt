@@ -2,16 +2,9 @@
 use Rattle.std.specs.Prelude.{Bool, not, ◌&&◌, List, [], ◌∷◌, ℕ, get_or, ℤ, pos, nat_abs, ◌-ℤ◌, ◌*ℤ◌}
 use Rattle.std.specs.Int.Signed.{le_z}
 use Rattle.numbers.specs.Numbers.{between}
+pub use Rattle.collimation.specs.declared.Collimation.{Collimation}
 
--- the sums of four readings on the staffs A and B, from I1 and from I2, and the distances of I2 to B and to A; all in mm
-pub record Collimation : Type 0 where
-  pub a1 : ℤ
-  pub b1 : ℤ
-  pub a2 : ℤ
-  pub b2 : ℤ
-  pub d1 : ℤ
-  pub d2 : ℤ
-
+-- A1, B1, A2, B2, D1, D2, in mm
 abbrev pub collimation_of : List ℤ → Collimation
 collimation_of x =
     record {

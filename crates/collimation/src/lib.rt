@@ -3,63 +3,97 @@
 
 ghost use Rattle.std.specs.Prelude.{◌≡◌, true};
 ghost use Rattle.numbers.specs.Tables.{first_of};
+ghost use Rattle.records.specs.Refusals.{number_of};
 ghost use Rattle.collimation.specs.Collimation.{collimation_of, sums_in_range, distances_in_range, in_range, scaled_angle, within_angle, range_tests, angle_tests};
 
+use records::Refusal;
 use roots::limits::magnitude;
-use station::pick;
 
-fn sums_in_range(x: [i64; 6]) -> bool
-    ensures { result ≡ sums_in_range (collimation_of x) }
-{
-    ((0 <= x[0]) & (x[0] <= 12000))
-        & ((0 <= x[1]) & (x[1] <= 12000))
-        & ((0 <= x[2]) & (x[2] <= 12000))
-        & ((0 <= x[3]) & (x[3] <= 12000))
+// The sums of four readings on the staffs A and B, from I1 and from I2, and the distances of I2 to B and to A.
+#[derive(Clone, Copy)]
+pub struct Collimation {
+    pub a1: i64,
+    pub b1: i64,
+    pub a2: i64,
+    pub b2: i64,
+    pub d1: i64,
+    pub d2: i64,
 }
 
-fn distances_in_range(x: [i64; 6]) -> bool
-    ensures { result ≡ distances_in_range (collimation_of x) }
+fn collimation_of(x: [i64; 6]) -> Collimation
+    ensures { result ≡ collimation_of x }
 {
-    ((5000 <= x[4]) & (x[4] <= 7000)) & ((40000 <= x[5]) & (x[5] <= 50000))
-}
-
-fn in_range(x: [i64; 6]) -> bool
-    ensures { result ≡ in_range (collimation_of x) }
-{
-    sums_in_range(x) & distances_in_range(x)
-}
-
-fn scaled_angle(x: [i64; 6]) -> i64
-    requires { in_range (collimation_of x) ≡ true }
-    ensures { result ≡ scaled_angle (collimation_of x) }
-{
-    let u = (x[2] - x[3]) - (x[0] - x[1]);
-    let d1 = x[4];
-    let d2 = x[5];
-    2062650000000 * u - 1288 * (d2 * d2 - d1 * d1)
-}
-
-fn within_angle(x: [i64; 6]) -> bool
-    requires { in_range (collimation_of x) ≡ true }
-    ensures { result ≡ within_angle (collimation_of x) }
-{
-    let limit = 1600000000 * (x[5] - x[4]);
-    magnitude(scaled_angle(x)) <= limit as u64
-}
-
-// The refusal that a value outside its range causes: 44, or 0.
-pub fn input_refusal(x: [i64; 6]) -> u8
-    ensures { result ≡ first_of (range_tests (collimation_of x)) }
-{
-    pick(!in_range(x), 44, 0)
-}
-
-// The refusal of values outside their ranges, or of an i angle above its limit: 44, 45, or 0.
-pub fn angle_refusal(x: [i64; 6]) -> u8
-    ensures { result ≡ first_of (angle_tests (collimation_of x)) }
-{
-    if !in_range(x) {
-        return 44;
+    let [a1, b1, a2, b2, d1, d2] = x;
+    Collimation {
+        a1,
+        b1,
+        a2,
+        b2,
+        d1,
+        d2,
     }
-    pick(!within_angle(x), 45, 0)
+}
+
+impl Collimation {
+    fn has_sums_in_range(&self) -> bool
+        ensures { result ≡ sums_in_range self.now }
+    {
+        (0..=12000).contains(&self.a1)
+            && (0..=12000).contains(&self.b1)
+            && (0..=12000).contains(&self.a2)
+            && (0..=12000).contains(&self.b2)
+    }
+
+    fn has_distances_in_range(&self) -> bool
+        ensures { result ≡ distances_in_range self.now }
+    {
+        (5000..=7000).contains(&self.d1) && (40000..=50000).contains(&self.d2)
+    }
+
+    fn in_range(&self) -> bool
+        ensures { result ≡ in_range self.now }
+    {
+        self.has_sums_in_range() && self.has_distances_in_range()
+    }
+
+    fn scaled_angle(&self) -> i64
+        requires { in_range self.now ≡ true }
+        ensures { result ≡ scaled_angle self.now }
+    {
+        let u = (self.a2 - self.b2) - (self.a1 - self.b1);
+        2062650000000 * u - 1288 * (self.d2 * self.d2 - self.d1 * self.d1)
+    }
+
+    fn within_angle(&self) -> bool
+        requires { in_range self.now ≡ true }
+        ensures { result ≡ within_angle self.now }
+    {
+        let limit = 1600000000 * (self.d2 - self.d1);
+        magnitude(self.scaled_angle()) <= limit as u64
+    }
+}
+
+// The refusal that a value outside its range causes: 44.
+pub fn check_range(x: [i64; 6]) -> Result<(), Refusal>
+    ensures { number_of result ≡ first_of (range_tests (collimation_of x)) }
+{
+    if collimation_of(x).in_range() {
+        Ok(())
+    } else {
+        Err(Refusal::CollimationRange)
+    }
+}
+
+// The refusal of values outside their ranges, or of an i angle above its limit: 44 or 45.
+pub fn check_angle(x: [i64; 6]) -> Result<(), Refusal>
+    ensures { number_of result ≡ first_of (angle_tests (collimation_of x)) }
+{
+    let test = collimation_of(x);
+    if !test.in_range() {
+        return Err(Refusal::CollimationRange);
+    }
+    if !test.within_angle() {
+        return Err(Refusal::Collimation);
+    }
+    Ok(())
 }

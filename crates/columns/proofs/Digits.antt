@@ -9,6 +9,8 @@ use native.Mathlib.Omega.{arith}
 use borrow.Author.Tests.{lt-ltb, le-ltb, le-leb, leb-true}
 use lib.Dec.{leb}
 use lib.ListN.{length, length-append}
+use Rattle.std.specs.Fmt as printed
+use Rattle.std.proofs.lemmas.Fmt.{decimal_digit, decimal_step}
 use Rattle.columns.specs.Decimals.{digits_by, digits, value_of}
 use Rattle.columns.specs.code.Parser.{is_digit, all_digits}
 use Rattle.columns.proofs.Compare.{both}
@@ -62,6 +64,13 @@ module _ (P : ℕ → Type 0) (small : (n : ℕ) → n < 10 → P n) (large : (n
 
   pub digits_ind : (n : ℕ) → P n
   digits_ind n = up_to (suc n) n (omega arith)
+
+-- what `{}` prints of a number of 64 bits
+pub digits_printed : (n : ℕ) → n < 2 ^ 64 → digits n ≡ printed.decimal n
+digits_printed =
+    digits_ind (λ n. n < 2 ^ 64 → digits n ≡ printed.decimal n)
+    (λ n h g. let e : n % 10 ≡ n = omega arith in digits_small n h ∙ ap (λ (k : ℕ). (48 + k) ∷ []) e ∙ sym (decimal_digit n h))
+    (λ n h ih g. digits_large n h ∙ ap (λ (x : List ℕ). x ++ last n) (ih (omega arith)) ∙ sym (decimal_step n h g))
 
 -- ---- its digits
 
@@ -144,9 +153,23 @@ digits_below (suc k) n p h =
     some zero q l = absurd (omega arith)
     some (suc k) q l = omega arith
 
--- a number of 64 bits has at most twenty
-pub digits_word : (n : ℕ) → n < 18446744073709551616 → length (digits n) ≤ 20
-digits_word n h = digits_below 20 n (omega arith) (omega arith)
+-- and one from 10 ^ k on has more
+pub digits_above : (k n : ℕ) → 10 ^ k ≤ n → k < length (digits n)
+digits_above zero n h = digits_some n
+digits_above (suc k) n h =
+    one_or_more n (λ s. absurd (omega (arith, pow-suc 10 k, pow-pos k)))
+    (λ l. omega (arith, length_large n l, digits_above k (n / 10) (omega (arith, pow-suc 10 k))))
+  where
+    pow-pos : (k : ℕ) → 1 ≤ 10 ^ k
+    pow-pos zero = omega arith
+    pow-pos (suc k) = omega (arith, pow-suc 10 k, pow-pos k)
+
+-- the logarithm
+pub digits_log : (k n : ℕ) → 10 ^ k ≤ n → n < 10 * 10 ^ k → length (digits n) ≡ k + 1
+digits_log k n h g = omega (arith, digits_above k n h, digits_below (suc k) n (omega arith) (omega (arith, pow-suc 10 k)))
+
+pub digits_zero : (n : ℕ) → n ≡ 0 → length (digits n) ≡ 1
+digits_zero n e = ap length (digits_small n (omega arith))
 
 -- ---- digits read
 

@@ -4,22 +4,24 @@ use mathlib.Core.List.{[], ◌∷◌, ◌++◌}
 use lib.IntN.{pos, negsuc}
 use lib.ListN.{length, take}
 use Rattle.numbers.specs.Numbers.{put_at}
-use Rattle.columns.specs.declared.parser.Field.TheVariants.{Number, Bad}
+use Rattle.std.specs.Prelude.{Some, None}
+use Rattle.std.specs.Prelude.{Err}
 use Rattle.records.specs.declared.Tag.TheVariants.{Run}
+use Rattle.records.specs.declared.Refusal.TheVariants.{NotARecord, BadField}
 use Rattle.columns.specs.Decimals.{blanks, digits_by, digits, decimal, fits_in, pad, same, value_of, has_minus, candidate, field_of}
 use Rattle.columns.specs.Lines.{line_end, line_with, width_of, fields, all_fit, columns_of, line_fits, tag_line, is_wide, heading}
-use Rattle.columns.specs.Records.{letters, tag_among, all_numbers, numbers_in, refused_line, record_line, numbers_line, record_in, line_in}
+use Rattle.columns.specs.Records.{letters, tag_among, all_numbers, numbers_in, record_line, numbers_line, record_in, line_in}
 
 -- "      -4" is a number; "      +4", "     007", "      -0", "    -  4", "      4 " and blanks are none
 field_examples :
-    (field_of (blanks 6 ++ (45 ∷ 52 ∷ [])) ≡ Number (negsuc 3))
-    × (field_of (blanks 6 ++ (43 ∷ 52 ∷ [])) ≡ Bad)
-    × (field_of (blanks 5 ++ (48 ∷ 48 ∷ 55 ∷ [])) ≡ Bad)
-    × (field_of (blanks 6 ++ (45 ∷ 48 ∷ [])) ≡ Bad)
-    × (field_of (blanks 4 ++ (45 ∷ 32 ∷ 32 ∷ 52 ∷ [])) ≡ Bad)
-    × (field_of (blanks 6 ++ (52 ∷ 32 ∷ [])) ≡ Bad)
-    × (field_of (blanks 8) ≡ Bad)
-    × (field_of (blanks 7 ++ (48 ∷ [])) ≡ Number (pos 0))
+    (field_of (blanks 6 ++ (45 ∷ 52 ∷ [])) ≡ Some (negsuc 3))
+    × (field_of (blanks 6 ++ (43 ∷ 52 ∷ [])) ≡ None)
+    × (field_of (blanks 5 ++ (48 ∷ 48 ∷ 55 ∷ [])) ≡ None)
+    × (field_of (blanks 6 ++ (45 ∷ 48 ∷ [])) ≡ None)
+    × (field_of (blanks 4 ++ (45 ∷ 32 ∷ 32 ∷ 52 ∷ [])) ≡ None)
+    × (field_of (blanks 6 ++ (52 ∷ 32 ∷ [])) ≡ None)
+    × (field_of (blanks 8) ≡ None)
+    × (field_of (blanks 7 ++ (48 ∷ [])) ≡ Some (pos 0))
 unfolding field_of candidate has_minus value_of same pad decimal digits digits_by blanks
 field_examples = (refl, refl, refl, refl, refl, refl, refl, refl)
 
@@ -40,9 +42,9 @@ wide_example = (refl, refl)
 -- RUN 2 is a record; with a bad field it is 2, with anything after its field 1, also where its field is bad; a second heading is 1
 line_examples :
     (line_in (line_with (letters Run ++ pad 8 (pos 2))) ≡ record_line Run (pos 2 ∷ []))
-    × (line_in (line_with (letters Run ++ blanks 8)) ≡ refused_line 2)
-    × (line_in (line_with (letters Run ++ pad 8 (pos 2) ++ (46 ∷ []))) ≡ refused_line 1)
-    × (line_in (line_with (letters Run ++ blanks 8 ++ (46 ∷ []))) ≡ refused_line 1)
-    × (line_in heading ≡ refused_line 1)
+    × (line_in (line_with (letters Run ++ blanks 8)) ≡ Err BadField)
+    × (line_in (line_with (letters Run ++ pad 8 (pos 2) ++ (46 ∷ []))) ≡ Err NotARecord)
+    × (line_in (line_with (letters Run ++ blanks 8 ++ (46 ∷ []))) ≡ Err NotARecord)
+    × (line_in heading ≡ Err NotARecord)
 unfolding line_in record_in numbers_line tag_among all_numbers numbers_in put_at heading line_with line_end field_of candidate has_minus value_of same pad decimal digits digits_by blanks
 line_examples = (refl, refl, refl, refl, refl)

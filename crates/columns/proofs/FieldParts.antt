@@ -1,20 +1,17 @@
 -- How a field is parsed: blanks, then a minus or none, then digits with no leading zero and no −0 are exactly the fields that are numbers.
-use mathlib.Core.Path.{◌≡◌, refl, sym, ap, subst, ◌∙◌}
+use mathlib.Core.Path.{◌≡◌, refl, sym, ap, ◌∙◌}
 use mathlib.Core.Bool.{Bool, true, false, cond}
 use mathlib.Core.List.{List, [], ◌∷◌, ◌++◌}
 use Prim.Native.Nat.{ℕ, zero, suc, ◌+◌, ◌-◌, ◌*◌, ◌%◌, ◌≤◌, ◌<◌}
 use native.Mathlib.Omega.{arith}
-use native.Mathlib.Numerals.{add-one}
-use borrow.Author.Tests.{eqb-true, eqb-false}
-use lib.Dec.{eqb}
 use lib.IntN.{ℤ, pos, negsuc}
-use lib.ListN.{length, drop, get_or, drop_of_length-le}
-use Rattle.numbers.proofs.Arrays.{drop_next}
+use lib.ListN.{length, take, drop, get_or}
 use Rattle.numbers.proofs.Tests.{by_test, is_true, is_false, not_both}
-use Rattle.columns.specs.declared.parser.Field.{Field}
-use Rattle.columns.specs.declared.parser.Field.TheVariants.{Number, Bad}
+use Rattle.std.specs.declared.option.Option.{Option}
+use Rattle.std.specs.Prelude.{Some, None}
 use Rattle.columns.specs.Decimals.{blanks, digits, digits_by, decimal, pad, same, value_of, has_minus, candidate, field_of}
-use Rattle.columns.specs.code.Parser.{leading_blanks, is_digit, all_digits, digit_run, natural_of, negated}
+use Rattle.columns.specs.code.Parser.{is_digit, all_digits, digit_run, natural_of, negated}
+use Rattle.columns.proofs.Lists.{part_rest}
 use Rattle.columns.proofs.Compare.{both}
 use Rattle.columns.proofs.Digits.{first_digit, digits_small, digits_value, digit_range}
 use Rattle.columns.proofs.Fields.{digits_only, length_pad_of, bad_number, field_written, written_field, field_is}
@@ -67,41 +64,20 @@ pub field_blank : (r : List ℕ) → field_of (32 ∷ r) ≡ field_of r
 field_blank r =
     field_is (32 ∷ r) (field_of r) (λ z e. blank_more z r (written_field r z e)) (λ z e. field_written r z (blank_less z r e))
 
--- what follows the blanks is the same field, and begins with another byte
-pub record AfterBlanks (bs : List ℕ) (i : ℕ) : Type 0 where
-  pub same_field : field_of bs ≡ field_of (drop i bs)
-  pub other : i < length bs → get_or bs i 0 ≡ 32 → ⊥
-
-after_first : (b : ℕ) (bs : List ℕ) → AfterBlanks bs (leading_blanks bs) → AfterBlanks (b ∷ bs) (cond (eqb b 32) (leading_blanks bs + 1) 0)
-after_first b bs a =
-    by_test (eqb b 32) (λ t. AfterBlanks (b ∷ bs) (cond t (leading_blanks bs + 1) 0))
-    (λ t.
-    subst (AfterBlanks (b ∷ bs)) (sym (add-one (leading_blanks bs)))
-    (record {
-      same_field = ap (λ (x : ℕ). field_of (x ∷ bs)) (eqb-true b 32 (is_true t)) ∙ field_blank bs ∙ a.same_field;
-      other = λ h. a.other (omega arith);
-    }))
-    (λ t. record { same_field = refl; other = λ h. eqb-false b 32 (is_false t) })
-
-pub after_blanks : (bs : List ℕ) → AfterBlanks bs (leading_blanks bs)
-unfolding leading_blanks
-after_blanks [] = record { same_field = refl; other = λ h. absurd (omega arith) }
-after_blanks (b ∷ bs) = after_first b bs (after_blanks bs)
-
 -- digits are a number where they are its digits
-digits_field : (n : ℕ) (r : List ℕ) → r ≡ digits n → natural_of r ≡ Number (pos n)
+digits_field : (n : ℕ) (r : List ℕ) → r ≡ digits n → natural_of r ≡ Some (pos n)
 unfolding natural_of decimal
 digits_field n r e =
-    ap (λ (t : Bool). cond t (field_of r) Bad) (ap all_digits e ∙ digits_only n) ∙ field_written r (pos n) (exact_pad (pos n) r e)
+    ap (λ (t : Bool). cond t (field_of r) None) (ap all_digits e ∙ digits_only n) ∙ field_written r (pos n) (exact_pad (pos n) r e)
 
-field_digits : (z : ℤ) (r : List ℕ) → natural_of r ≡ Number z → r ≡ decimal z
+field_digits : (z : ℤ) (r : List ℕ) → natural_of r ≡ Some z → r ≡ decimal z
 unfolding natural_of all_digits pad blanks
 field_digits z [] e = written_field [] z e ∙ ap (λ (j : ℕ). blanks j ++ decimal z) (none (length (decimal z)))
   where
     none : (l : ℕ) → 0 - l ≡ 0
     none l = omega arith
 field_digits z (b ∷ r) e =
-    by_test (all_digits (b ∷ r)) (λ t. cond t (field_of (b ∷ r)) Bad ≡ Number z → b ∷ r ≡ decimal z)
+    by_test (all_digits (b ∷ r)) (λ t. cond t (field_of (b ∷ r)) None ≡ Some z → b ∷ r ≡ decimal z)
     (λ t f.
     let d = digit_range b (both (is_digit b) (all_digits r) (is_true t)).0 in
     pad_exact (length (b ∷ r)) z b r (λ q. omega arith) (written_field (b ∷ r) z f))
@@ -113,23 +89,23 @@ field_minus r =
     field_is (45 ∷ r) (negated (natural_of r)) (λ z e. exact_pad z (45 ∷ r) (there z (natural_of r) refl e))
     (λ z e. back z (pad_exact (length (45 ∷ r)) z 45 r (λ q. omega arith) e))
   where
-    there : (z : ℤ) (f : Field) → natural_of r ≡ f → negated f ≡ Number z → 45 ∷ r ≡ decimal z
-    there z (Number (pos zero)) q e = absurd (bad_number e)
-    there z (Number (pos (suc n))) q e =
+    there : (z : ℤ) (f : Option ℤ) → natural_of r ≡ f → negated f ≡ Some z → 45 ∷ r ≡ decimal z
+    there z (Some (pos zero)) q e = absurd (bad_number e)
+    there z (Some (pos (suc n))) q e =
         let s : negsuc n ≡ z = cc in
         ap (λ (x : List ℕ). 45 ∷ x) (field_digits (pos (suc n)) r q) ∙ ap decimal s
-    there z (Number (negsuc n)) q e = absurd (bad_number e)
-    there z Bad q e = absurd (bad_number e)
+    there z (Some (negsuc n)) q e = absurd (bad_number e)
+    there z None q e = absurd (bad_number e)
 
-    back : (z : ℤ) → 45 ∷ r ≡ decimal z → negated (natural_of r) ≡ Number z
+    back : (z : ℤ) → 45 ∷ r ≡ decimal z → negated (natural_of r) ≡ Some z
     back (pos n) e = let f = first_digit n in let s : 45 ≡ f.head = cc in absurd (omega arith)
     back (negsuc n) e = let s : r ≡ digits (suc n) = cc in ap negated (digits_field (suc n) r s)
 
 pub field_other : (b : ℕ) (r : List ℕ) → (b ≡ 32 → ⊥) → (b ≡ 45 → ⊥) → field_of (b ∷ r) ≡ natural_of (b ∷ r)
 unfolding natural_of decimal
 field_other b r h k =
-    by_test (all_digits (b ∷ r)) (λ t. field_of (b ∷ r) ≡ cond t (field_of (b ∷ r)) Bad) (λ t. refl)
-    (λ t. field_is (b ∷ r) Bad (λ z e. absurd (bad_number e)) (λ z e. absurd (none z (is_false t) (pad_exact (length (b ∷ r)) z b r h e))))
+    by_test (all_digits (b ∷ r)) (λ t. field_of (b ∷ r) ≡ cond t (field_of (b ∷ r)) None) (λ t. refl)
+    (λ t. field_is (b ∷ r) None (λ z e. absurd (bad_number e)) (λ z e. absurd (none z (is_false t) (pad_exact (length (b ∷ r)) z b r h e))))
   where
     none : (z : ℤ) → all_digits (b ∷ r) ≡ false → b ∷ r ≡ decimal z → ⊥
     none (pos n) t e = not_both (ap all_digits e ∙ digits_only n) t
@@ -137,16 +113,16 @@ field_other b r h k =
 
 -- ---- digits
 
-pub field_empty : field_of [] ≡ Bad
+pub field_empty : field_of [] ≡ None
 unfolding field_of candidate has_minus value_of pad decimal digits digits_by blanks same
 field_empty = refl
 
-pub natural_empty : (bs : List ℕ) → length bs ≡ 0 → natural_of bs ≡ Bad
+pub natural_empty : (bs : List ℕ) → length bs ≡ 0 → natural_of bs ≡ None
 unfolding natural_of all_digits
 natural_empty [] h = field_empty
 natural_empty (b ∷ bs) h = absurd (omega arith)
 
-leading_zero : (c : ℕ) (r : List ℕ) → natural_of (48 ∷ c ∷ r) ≡ Bad
+leading_zero : (c : ℕ) (r : List ℕ) → natural_of (48 ∷ c ∷ r) ≡ None
 unfolding decimal
 leading_zero c r = go (natural_of (48 ∷ c ∷ r)) refl
   where
@@ -155,11 +131,11 @@ leading_zero c r = go (natural_of (48 ∷ c ∷ r)) refl
     none (pos (suc n)) e = let f = first_digit (suc n) in let s : 48 ≡ f.head = cc in omega (arith, f.nonzero (omega arith))
     none (negsuc n) e = let s : ◌≡◌ {A = ℕ} 48 45 = cc in omega arith
 
-    go : (f : Field) → natural_of (48 ∷ c ∷ r) ≡ f → natural_of (48 ∷ c ∷ r) ≡ Bad
-    go (Number z) e = absurd (none z (field_digits z (48 ∷ c ∷ r) e))
-    go Bad e = e
+    go : (f : Option ℤ) → natural_of (48 ∷ c ∷ r) ≡ f → natural_of (48 ∷ c ∷ r) ≡ None
+    go (Some z) e = absurd (none z (field_digits z (48 ∷ c ∷ r) e))
+    go None e = e
 
-pub natural_zero : (bs : List ℕ) → 1 < length bs → get_or bs 0 0 ≡ 48 → natural_of bs ≡ Bad
+pub natural_zero : (bs : List ℕ) → 1 < length bs → get_or bs 0 0 ≡ 48 → natural_of bs ≡ None
 natural_zero [] h e = absurd (omega arith)
 natural_zero (b ∷ []) h e = absurd (omega arith)
 natural_zero (b ∷ c ∷ r) h e = ap (λ (x : ℕ). natural_of (x ∷ c ∷ r)) e ∙ leading_zero c r
@@ -168,7 +144,7 @@ natural_zero (b ∷ c ∷ r) h e = ap (λ (x : ℕ). natural_of (x ∷ c ∷ r))
 run_is : (bs : List ℕ) → (all_digits bs ≡ true → bs ≡ digits (value_of 0 bs)) → natural_of bs ≡ digit_run bs
 unfolding natural_of digit_run decimal
 run_is bs h =
-    by_test (all_digits bs) (λ t. cond t (field_of bs) Bad ≡ cond t (Number (pos (value_of 0 bs))) Bad)
+    by_test (all_digits bs) (λ t. cond t (field_of bs) None ≡ cond t (Some (pos (value_of 0 bs))) None)
     (λ t. field_written bs (pos (value_of 0 bs)) (exact_pad (pos (value_of 0 bs)) bs (h (is_true t)))) (λ t. refl)
 
 digit_is : (b : ℕ) → is_digit b ≡ true → digits (10 * 0 + (b - 48)) ≡ b ∷ []
@@ -195,22 +171,21 @@ natural_more (b ∷ r) h k =
     let d = digit_range b t.0 in
     sym (digits_value (10 * 0 + (b - 48)) r (omega (arith, k)) t.1 ∙ ap (λ (x : List ℕ). x ++ r) (digit_is b t.0)))
 
--- ---- a field from its first byte on that is not a blank
+-- ---- a field by its first byte, with `&bs[1..]` as the code takes it
 
-module _ (bs : List ℕ) where
-  pub field_none : length bs ≤ leading_blanks bs → field_of bs ≡ Bad
-  field_none h = (after_blanks bs).same_field ∙ ap field_of (drop_of_length-le bs h) ∙ field_empty
+pub field_skip : (bs : List ℕ) → 1 ≤ length bs → get_or bs 0 0 ≡ 32 → field_of (take (length bs - 1) (drop 1 bs)) ≡ field_of bs
+field_skip [] h e = absurd (omega arith)
+field_skip (b ∷ r) h e = ap field_of (part_rest (b ∷ r) 1) ∙ sym (ap (λ (x : ℕ). field_of (x ∷ r)) e ∙ field_blank r)
 
-  first : leading_blanks bs < length bs → field_of bs ≡ field_of (get_or bs (leading_blanks bs) 0 ∷ drop (leading_blanks bs + 1) bs)
-  first h = (after_blanks bs).same_field ∙ ap field_of (drop_next bs (leading_blanks bs) 0 h)
+pub field_first_minus : (bs : List ℕ) → 1 ≤ length bs → get_or bs 0 0 ≡ 45 → field_of bs ≡ negated (natural_of (take (length bs - 1) (drop 1 bs)))
+field_first_minus [] h e = absurd (omega arith)
+field_first_minus (b ∷ r) h e =
+    ap (λ (x : ℕ). field_of (x ∷ r)) e ∙ field_minus r ∙ ap (λ (x : List ℕ). negated (natural_of x)) (sym (part_rest (b ∷ r) 1))
 
-  pub field_first_minus : leading_blanks bs < length bs → get_or bs (leading_blanks bs) 0 ≡ 45 → field_of bs ≡ negated (natural_of (drop (leading_blanks bs + 1) bs))
-  field_first_minus h e =
-      let rest = drop (leading_blanks bs + 1) bs in
-      first h ∙ ap (λ (b : ℕ). field_of (b ∷ rest)) e ∙ field_minus rest
+pub field_first_other : (bs : List ℕ) → 1 ≤ length bs → (get_or bs 0 0 ≡ 32 → ⊥) → (get_or bs 0 0 ≡ 45 → ⊥) → field_of bs ≡ natural_of bs
+field_first_other [] h k e = absurd (omega arith)
+field_first_other (b ∷ r) h k e = field_other b r k e
 
-  pub field_first_other : leading_blanks bs < length bs → (get_or bs (leading_blanks bs) 0 ≡ 45 → ⊥) → field_of bs ≡ natural_of (drop (leading_blanks bs) bs)
-  field_first_other h k =
-      let b = get_or bs (leading_blanks bs) 0 in
-      let rest = drop (leading_blanks bs + 1) bs in
-      first h ∙ field_other b rest ((after_blanks bs).other h) k ∙ sym (ap natural_of (drop_next bs (leading_blanks bs) 0 h))
+pub field_none : (bs : List ℕ) → length bs < 1 → field_of bs ≡ natural_of bs
+field_none [] h = field_empty ∙ sym (natural_empty [] refl)
+field_none (b ∷ r) h = absurd (omega arith)

@@ -9,17 +9,16 @@ use lib.IntN.{ℤ, pos, negsuc, neg_ℤ, nat_abs}
 use lib.Signed.{◌≤ℤ◌, ◌<ℤ◌}
 use lib.ListN.{length, length-append, length-replicate}
 use Rattle.numbers.proofs.Parts.{ints, pos_part, neg_part}
-use lib.ListN.{set}
-use Rattle.numbers.specs.Numbers.{put_at}
-use Rattle.numbers.proofs.Arrays.{put_cons, put_before}
 use Rattle.numbers.proofs.Tests.{by_test, is_true}
-use Rattle.columns.specs.declared.parser.Field.{Field}
-use Rattle.columns.specs.declared.parser.Field.TheVariants.{Number, Bad}
+use Rattle.std.specs.declared.option.Option.{Option}
+use Rattle.std.specs.Prelude.{Some, None}
 use Rattle.columns.specs.Decimals.{blanks, digits, decimal, fits_in, pad, same, value_of, has_minus, candidate, field_of}
 use Rattle.columns.specs.code.Parser.{is_digit, all_digits}
-use Rattle.columns.proofs.Lists.{left_next, left_none}
 use Rattle.columns.proofs.Compare.{both, same_true, same_equal}
-use Rattle.columns.proofs.Digits.{digit_range, all_digits_lem, value_digits, digits_below}
+use mir.Syntax.{w64}
+use mir.Val.{SFits}
+use Rattle.std.specs.Fmt.{signed_decimal}
+use Rattle.columns.proofs.Digits.{digits_printed, digit_range, all_digits_lem, value_digits, digits_below}
 
 -- ---- by sign
 
@@ -33,24 +32,11 @@ unfolding decimal
 decimal_plain {z = pos n} h = refl
 decimal_plain {z = negsuc n} h = absurd (omega ints)
 
-pub digits_decimal : (z : ℤ) → length (digits (nat_abs z)) ≤ length (decimal z)
-unfolding decimal
-digits_decimal (pos n) = omega arith
-digits_decimal (negsuc n) = omega arith
-
 -- ---- lengths
 
 pub length_blanks : (k : ℕ) → length (blanks k) ≡ k
 unfolding blanks
 length_blanks k = length-replicate k 32
-
-pub blanks_next : (n i : ℕ) → i < n → blanks (n - i) ≡ 32 ∷ blanks (n - (i + 1))
-unfolding blanks
-blanks_next n i h = ap blanks (left_next n i h)
-
-pub blanks_none : (n i : ℕ) → n ≤ i → blanks (n - i) ≡ []
-unfolding blanks
-blanks_none n i h = ap blanks (left_none n i h)
 
 pub length_pad_of : (k : ℕ) (z : ℤ) → length (pad k z) ≡ (k - length (decimal z)) + length (decimal z)
 unfolding pad
@@ -102,72 +88,63 @@ candidate_pad k z = after_blanks (k - length (decimal z)) (decimal z) ∙ candid
 
 -- ---- a field is a number exactly if its bytes are that number's
 
-pub bad_number : {z : ℤ} → Bad ≡ Number z → ⊥
+pub bad_number : {z : ℤ} → None ≡ Some z → ⊥
 bad_number e = let o : ◌≡◌ {A = ℕ} 0 1 = cc in omega arith
 
 module _ (bs : List ℕ) where
   abbrev test : Bool
   test = same bs (pad (length bs) (candidate bs))
 
-  pub field_written : (z : ℤ) → bs ≡ pad (length bs) z → field_of bs ≡ Number z
+  pub field_written : (z : ℤ) → bs ≡ pad (length bs) z → field_of bs ≡ Some z
   unfolding field_of
   field_written z e =
       let c : candidate bs ≡ z = ap candidate e ∙ candidate_pad (length bs) z in
-      ap (λ (t : Bool). cond t (Number (candidate bs)) Bad) (same_equal bs (pad (length bs) (candidate bs)) (e ∙ ap (pad (length bs)) (sym c)))
-      ∙ ap Number c
+      ap (λ (t : Bool). cond t (Some (candidate bs)) None) (same_equal bs (pad (length bs) (candidate bs)) (e ∙ ap (pad (length bs)) (sym c)))
+      ∙ ap Some c
 
-  pub written_field : (z : ℤ) → field_of bs ≡ Number z → bs ≡ pad (length bs) z
+  pub written_field : (z : ℤ) → field_of bs ≡ Some z → bs ≡ pad (length bs) z
   unfolding field_of
   written_field z =
-      by_test test (λ t. cond t (Number (candidate bs)) Bad ≡ Number z → bs ≡ pad (length bs) z)
+      by_test test (λ t. cond t (Some (candidate bs)) None ≡ Some z → bs ≡ pad (length bs) z)
       (λ t e. same_true bs (pad (length bs) (candidate bs)) (is_true t) ∙ ap (pad (length bs)) (inside (candidate bs) e))
       (λ t e. absurd (bad_number e))
     where
-      inside : (y : ℤ) → Number y ≡ Number z → y ≡ z
+      inside : (y : ℤ) → Some y ≡ Some z → y ≡ z
       inside y e = cc
 
 -- reading undoes writing
-pub read_back : (k : ℕ) (z : ℤ) → fits_in k z ≡ true → field_of (pad k z) ≡ Number z
+pub read_back : (k : ℕ) (z : ℤ) → fits_in k z ≡ true → field_of (pad k z) ≡ Some z
 read_back k z f = field_written (pad k z) z (ap (λ (j : ℕ). pad j z) (sym (length_pad k z f)))
 
 -- what is read as a number fits its columns
-pub number_fits : (bs : List ℕ) (z : ℤ) → field_of bs ≡ Number z → fits_in (length bs) z ≡ true
+pub number_fits : (bs : List ℕ) (z : ℤ) → field_of bs ≡ Some z → fits_in (length bs) z ≡ true
 unfolding fits_in
 number_fits bs z e = le-leb (length (decimal z)) (length bs) (omega (arith, ap length (written_field bs z e), length_pad_of (length bs) z))
 
 -- a field is what is a number for the same bytes
-pub field_is : (bs : List ℕ) (f : Field) → ((z : ℤ) → f ≡ Number z → bs ≡ pad (length bs) z) → ((z : ℤ) → bs ≡ pad (length bs) z → f ≡ Number z) → field_of bs ≡ f
-field_is bs (Number z) there back = field_written bs z (there z refl)
-field_is bs Bad there back = go (field_of bs) refl
+pub field_is : (bs : List ℕ) (f : Option ℤ) → ((z : ℤ) → f ≡ Some z → bs ≡ pad (length bs) z) → ((z : ℤ) → bs ≡ pad (length bs) z → f ≡ Some z) → field_of bs ≡ f
+field_is bs (Some z) there back = field_written bs z (there z refl)
+field_is bs None there back = go (field_of bs) refl
   where
-    go : (g : Field) → field_of bs ≡ g → field_of bs ≡ Bad
-    go (Number z) e = e ∙ sym (back z (written_field bs z e))
-    go Bad e = e
+    go : (g : Option ℤ) → field_of bs ≡ g → field_of bs ≡ None
+    go (Some z) e = e ∙ sym (back z (written_field bs z e))
+    go None e = e
 
 -- ---- written
-
--- one of the blanks that are left, and then the others
-pub put_blank : (d : List ℕ) (at n i j : ℕ) → i < n → at + i < length d → j ≡ at + (i + 1) → put_at (set d (at + i) 32) j (blanks (n - (i + 1))) ≡ put_at d (at + i) (blanks (n - i))
-put_blank d at n i j h g e =
-    let rest = blanks (n - (i + 1)) in
-    let k : j ≡ at + i + 1 = omega arith in
-    ap (λ (m : ℕ). put_at (set d (at + i) 32) m rest) k ∙ put_cons d (at + i) 32 rest g ∙ ap (put_at d (at + i)) (sym (blanks_next n i h))
 
 pub fits_length : (k : ℕ) (z : ℤ) → fits_in k z ≡ true → length (decimal z) ≤ k
 unfolding fits_in
 fits_length k z h = leb-true (length (decimal z)) k h
 
--- a number up to its last column, and then the blanks before it
-pub put_padded :
-    (d : List ℕ) (at k r : ℕ) (z : ℤ)
-    → length (decimal z) ≤ k
-    → r + length (decimal z) ≡ at + k
-    → at + k ≤ length d
-    → put_at (put_at d r (decimal z)) at (blanks (r - at)) ≡ put_at d at (pad k z)
+-- what `{}` prints of a number of 64 bits
+pub decimal_printed : (z : ℤ) → SFits w64 z → decimal z ≡ signed_decimal z
+unfolding decimal
+decimal_printed (pos n) f = digits_printed n (omega (arith, f.sfits))
+decimal_printed (negsuc n) f = ap (λ (x : List ℕ). 45 ∷ x) (digits_printed (suc n) (omega (arith, f.sfits)))
+
+pub printed_room : (k : ℕ) (z : ℤ) → SFits w64 z → fits_in k z ≡ true → length (signed_decimal z) ≤ k
+printed_room k z f h = omega (arith, fits_length k z h, ap length (decimal_printed z f))
+
+pub printed_pad : (k : ℕ) (z : ℤ) {front number : List ℕ} → SFits w64 z → front ≡ blanks (k - length (signed_decimal z)) → number ≡ signed_decimal z → front ++ number ≡ pad k z
 unfolding pad
-put_padded d at k r z h e f =
-    let n : ℕ = k - length (decimal z) in
-    let b : length (blanks n) ≡ n = length_blanks n in
-    let i : r ≡ at + length (blanks n) = omega arith in
-    let j : r - at ≡ n = omega arith in
-    (λ x. put_at (put_at d (i x) (decimal z)) at (blanks (j x))) ∙ put_before d at (blanks n) (decimal z) (omega arith)
+printed_pad k z f b n = (λ i. b i ++ n i) ∙ ap (λ (x : List ℕ). blanks (k - length x) ++ x) (sym (decimal_printed z f))

@@ -7,6 +7,7 @@ pub mod Fields
 pub mod FieldParts
 pub mod Runs
 pub mod Lines
+pub mod Tags
 pub mod Records
 pub mod Sets
 pub mod RoundTrip

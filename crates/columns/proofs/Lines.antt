@@ -1,7 +1,7 @@
 -- Lines: how many columns their fields take, that a line has 84 bytes, and what a loop over its numbers has left.
 use mathlib.Core.Path.{◌≡◌, refl, sym, ap, ◌∙◌}
 use mathlib.Core.Bool.{Bool, true, false, cond}
-use mathlib.Core.List.{List, [], ◌∷◌, ◌++◌}
+use mathlib.Core.List.{List, [], ◌∷◌, ◌++◌, append_assoc}
 use Prim.Native.Nat.{ℕ, zero, suc, ◌+◌, ◌-◌, ◌*◌, ◌^◌, ◌≤◌, ◌<◌}
 use native.Mathlib.Omega.{arith}
 use borrow.Author.Tests.{leb-true, le-leb, lt-leb}
@@ -13,10 +13,11 @@ use lib.Seq.{take_all, drop-append-le}
 use Rattle.numbers.specs.Numbers.{put_at}
 use Rattle.numbers.proofs.Tests.{by_test, is_false}
 use Rattle.numbers.proofs.Parts.{ints, pos_part, neg_part, parts_abs, test_ge}
-use Rattle.numbers.proofs.Arrays.{put_after, drop_next}
+use Rattle.numbers.proofs.Arrays.{put_after, length_put_at, drop_next}
+use borrow.Rule.Slice.PartMut.{put_mid}
 use Rattle.columns.specs.Decimals.{blanks, fits_in, pad}
 use Rattle.columns.specs.Lines.{line_end, line_with, width_of, fields, all_fit, columns_of, line_fits, tag_line, is_wide, title}
-use Rattle.columns.proofs.Lists.{left_next}
+use Rattle.columns.proofs.Lists.{left_next, length_part, put_part}
 use Rattle.columns.proofs.Compare.{both}
 use Rattle.columns.proofs.Fields.{length_blanks, length_pad, fits_within}
 
@@ -31,6 +32,11 @@ pub columns_wide : (n : ℕ) → (n ≡ 0 → ⊥) → columns_of true n ≡ 8 *
 unfolding columns_of width_of
 columns_wide zero h = absurd (h refl)
 columns_wide (suc n) h = omega arith
+
+pub columns_none : (wide : Bool) (n : ℕ) → n ≡ 0 → columns_of wide n ≡ 0
+unfolding columns_of
+columns_none wide zero h = refl
+columns_none wide (suc n) h = absurd (omega arith)
 
 pub columns_range : (wide : Bool) (n : ℕ) → (8 * n ≤ columns_of wide n) × (columns_of wide n ≤ 8 * n + 8)
 unfolding columns_of width_of
@@ -97,15 +103,36 @@ module _ (wide : Bool) (zs : List ℤ) (i : ℕ) (h : i < length zs) where
   pub fit_rest : all_fit wide (drop i zs) ≡ true → all_fit wide (drop (i + 1) zs) ≡ true
   fit_rest e = (both (fits_in width_at (get_or zs i (pos 0))) (all_fit wide (drop (i + 1) zs)) (sym fit_turn ∙ e)).1
 
-  -- field i is written, and then those after it
-  pub put_field : (d : List ℕ) (at : ℕ) → all_fit wide (drop i zs) ≡ true → at ≤ length d
-      → put_at (put_at d at (pad width_at (get_or zs i (pos 0)))) (at + width_at) (fields wide (drop (i + 1) zs)) ≡ put_at d at (fields wide (drop i zs))
-  put_field d at e h =
-      let p = pad width_at (get_or zs i (pos 0)) in
-      let rest = fields wide (drop (i + 1) zs) in
-      ap (λ (m : ℕ). put_at (put_at d at p) (at + m) rest) (sym (length_pad width_at (get_or zs i (pos 0)) (fit_first e)))
-      ∙ put_after d at p rest h
-      ∙ ap (put_at d at) (sym fields_turn)
+  -- field i in its columns, which begin at `at`
+  module _ (d : List ℕ) (at k : ℕ) (w : k ≡ width_at) (room : at + k ≤ length d) where
+    part : length (take (at + k - at) (drop at d)) ≡ width_at
+    part = length_part d at k room ∙ w
+
+    pub part_fits : all_fit wide (drop i zs) ≡ true → fits_in (length (take (at + k - at) (drop at d))) (get_or zs i (pos 0)) ≡ true
+    part_fits e = ap (λ (n : ℕ). fits_in n (get_or zs i (pos 0))) part ∙ fit_first e
+
+    -- it is written, and then those after it
+    module _ (s : List ℕ) (is : s ≡ pad (length (take (at + k - at) (drop at d))) (get_or zs i (pos 0))) (e : all_fit wide (drop i zs) ≡ true) where
+      abbrev p : List ℕ
+      p = pad width_at (get_or zs i (pos 0))
+
+      put_is : put_mid at (at + k - at) d s ≡ put_at d at p
+      put_is =
+          let q : s ≡ p = is ∙ ap (λ (n : ℕ). pad n (get_or zs i (pos 0))) part in
+          put_part d s at k (ap length q ∙ length_pad width_at (get_or zs i (pos 0)) (fit_first e) ∙ sym w) ∙ ap (put_at d at) q
+
+      pub length_put : length (put_mid at (at + k - at) d s) ≡ length d
+      length_put =
+          let n : length p ≡ width_at = length_pad width_at (get_or zs i (pos 0)) (fit_first e) in
+          ap length put_is ∙ length_put_at d at p (omega arith)
+
+      pub put_field : put_at (put_mid at (at + k - at) d s) (at + k) (fields wide (drop (i + 1) zs)) ≡ put_at d at (fields wide (drop i zs))
+      put_field =
+          let rest = fields wide (drop (i + 1) zs) in
+          let n : length p ≡ width_at = length_pad width_at (get_or zs i (pos 0)) (fit_first e) in
+          (λ j. put_at (put_is j) (at + (w ∙ sym n) j) rest)
+          ∙ put_after d at p rest (omega arith)
+          ∙ ap (put_at d at) (sym fields_turn)
 
 -- ---- the end of a line
 
@@ -175,18 +202,18 @@ pub fits_room : (letters : ℕ) (zs : List ℤ) (wide : Bool) → letters + colu
 unfolding line_fits
 fits_room letters zs wide h = ap (λ (t : Bool). cond t (all_fit wide zs) false) (le-leb (letters + columns_of wide (length zs)) 83 h)
 
--- the blocks of a line, one after the other
+-- the tag, the fields and the end of a line
 pub line_built :
-    (d : List ℕ) (at : ℕ) (tag : List ℕ) (zs : List ℤ) (wide : Bool)
-    → FitsLine tag zs wide
-    → at + 84 ≤ length d
-    → put_at (put_at (put_at d at tag) (at + length tag) (fields wide zs)) (at + (length tag + columns_of wide (length zs))) (line_end (length tag + columns_of wide (length zs)))
-    ≡ put_at d at (line_with (tag ++ fields wide zs))
+    (tag : List ℕ) (zs : List ℤ) (wide : Bool) {front columns end : List ℕ}
+    → line_fits (length tag) zs wide ≡ true
+    → front ≡ tag
+    → columns ≡ fields wide zs
+    → end ≡ line_end (length tag + columns_of wide (length zs))
+    → front ++ (columns ++ end) ≡ line_with (tag ++ fields wide zs)
 unfolding line_with
-line_built d at tag zs wide f h =
-    ap (λ (x : List ℕ). put_at x (at + (length tag + columns_of wide (length zs))) (line_end (length tag + columns_of wide (length zs)))) (put_after d at tag (fields wide zs) (omega arith))
-    ∙ ap (λ (k : ℕ). put_at (put_at d at (tag ++ fields wide zs)) (at + k) (line_end k)) (sym f.used)
-    ∙ put_after d at (tag ++ fields wide zs) (line_end (length (tag ++ fields wide zs))) (omega arith)
+line_built tag zs wide h f c e =
+    (λ i. f i ++ (c i ++ (e ∙ ap line_end (sym (fits_line tag zs wide h).used)) i))
+    ∙ sym (append_assoc tag (fields wide zs) (line_end (length (tag ++ fields wide zs))))
 
 module _ (tag : List ℕ) (zs : List ℤ) (wide : Bool) where
   pub line_is : line_fits (length tag) zs wide ≡ true → tag_line tag zs wide ≡ line_with (tag ++ fields wide zs)

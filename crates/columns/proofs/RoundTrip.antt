@@ -4,24 +4,28 @@ use mathlib.Core.Bool.{Bool, true, false, cond}
 use mathlib.Core.List.{List, [], ◌∷◌, ◌++◌, append_assoc}
 use Prim.Native.Nat.{ℕ, zero, suc, ◌+◌, ◌*◌, ◌≤◌}
 use native.Mathlib.Omega.{arith}
-use lib.IntN.{ℤ}
+use lib.IntN.{ℤ, pos}
 use lib.ListN.{length, take, drop, length-take, length-drop, take-append-drop}
 use lib.Seq.{take_at, drop_at, take-add, drop-drop}
 use Rattle.numbers.specs.Numbers.{put_at}
 use Rattle.numbers.proofs.Tests.{by_test, is_true, not_both}
-use Rattle.columns.specs.declared.parser.Field.{Field}
-use Rattle.columns.specs.declared.parser.Field.TheVariants.{Number, Bad}
+use Rattle.std.specs.declared.option.Option.{Option}
+use Rattle.std.specs.Prelude.{Some, None}
+use Rattle.std.specs.Prelude.{Ok, Err, is_some}
+use Rattle.std.specs.Option.{unwrap_or}
+use Rattle.std.specs.declared.result.Result.{Result}
 use Rattle.records.specs.declared.Tag.{Tag}
-use Rattle.records.specs.declared.Kind.{Kind}
-use Rattle.records.specs.declared.Kind.TheVariants.{Record, Refused}
-use Rattle.columns.specs.declared.parser.TextLine.{TextLine}
+use Rattle.records.specs.declared.Record.{Record}
+use Rattle.records.specs.declared.Refusal.{Refusal}
+use Rattle.records.specs.declared.Refusal.TheVariants.{NotARecord, BadField}
 use Rattle.columns.specs.Decimals.{fits_in, pad, same, field_of}
 use Rattle.columns.specs.Lines.{line_end, line_with, width_of, fields, all_fit, line_fits, tag_line}
-use Rattle.columns.specs.Records.{letters, field_count, tags, tag_among, is_number, field_number, all_numbers, numbers_in, zeros, refused_line, record_line, numbers_line, record_in, line_of_kind, line_in}
+use Rattle.columns.specs.Records.{letters, field_count, tags, tag_among, all_numbers, numbers_in, zeros, record_line, numbers_line, record_in, line_of_tag, line_in}
 use Rattle.columns.proofs.Compare.{both, same_true, same_equal}
 use Rattle.columns.proofs.Fields.{length_pad, read_back, written_field, number_fits}
 use Rattle.columns.proofs.Lines.{columns_narrow, length_end, fits_line, fits_room, line_is}
-use Rattle.columns.proofs.Records.{tag_facts, record_shaped, line_taken}
+use Rattle.columns.proofs.Records.{record_shaped, line_taken}
+use Rattle.columns.proofs.Tags.{tag_facts}
 
 -- l is the record with tag t and numbers zs, written
 pub record Written (t : Tag) (zs : List ℤ) (l : List ℕ) : Type 0 where
@@ -45,11 +49,11 @@ fields_back (z ∷ zs) r h =
     let q : List ℕ = fields false zs ++ r in
     let n : length (pad w z) ≡ 8 = length_pad w z t.0 ∙ width_eight (length zs) in
     let e : (pad w z ++ fields false zs) ++ r ≡ pad w z ++ q = append_assoc (pad w z) (fields false zs) r in
-    let f : field_of (take 8 ((pad w z ++ fields false zs) ++ r)) ≡ Number z = ap (λ (x : List ℕ). field_of (take 8 x)) e ∙ ap field_of (take_at (pad w z) q 8 n) ∙ read_back w z t.0 in
+    let f : field_of (take 8 ((pad w z ++ fields false zs) ++ r)) ≡ Some z = ap (λ (x : List ℕ). field_of (take 8 x)) e ∙ ap field_of (take_at (pad w z) q 8 n) ∙ read_back w z t.0 in
     let d : drop 8 ((pad w z ++ fields false zs) ++ r) ≡ q = ap (drop 8) e ∙ drop_at (pad w z) q 8 n in
     let i = fields_back zs r t.1 in (
-      (λ j. cond (is_number (f j)) (all_numbers (length zs) (d j)) false) ∙ i.0,
-      (λ j. field_number (f j) ∷ numbers_in (length zs) (d j)) ∙ ap (λ (x : List ℤ). z ∷ x) i.1,
+      (λ j. cond (is_some (f j)) (all_numbers (length zs) (d j)) false) ∙ i.0,
+      (λ j. unwrap_or (f j) (pos 0) ∷ numbers_in (length zs) (d j)) ∙ ap (λ (x : List ℤ). z ∷ x) i.1,
     )
 
 -- the numbers of a record fit its line, and where its fields end
@@ -75,7 +79,7 @@ line_back t zs l w =
     let rest : drop 3 l ≡ r = ap (drop 3) a ∙ drop_at (letters t) r 3 (tag_facts t).three in
     let end : drop m l ≡ line_end m = ap (drop m) i ∙ drop_at s (line_end (length s)) m q ∙ ap line_end q in
     let f = fields_back zs (line_end (length s)) w.each in
-    ap (λ (k : Kind). line_of_kind k l) (ap (tag_among tags) front ∙ (tag_facts t).back)
+    ap (λ (k : Option Tag). line_of_tag k l) (ap (tag_among tags) front ∙ (tag_facts t).back)
     ∙ record_shaped t l (same_equal (drop m l) (line_end m) end)
     ∙ (λ j. numbers_line t (sym w.count j) (rest j))
     ∙ line_taken t (length zs) r f.0
@@ -83,24 +87,24 @@ line_back t zs l w =
 
 -- ---- what is read as a record is what writing it gives
 
-tag_letters : (ts : List Tag) (w : List ℕ) (t : Tag) → tag_among ts w ≡ Record t → w ≡ letters t
+tag_letters : (ts : List Tag) (w : List ℕ) (t : Tag) → tag_among ts w ≡ Some t → w ≡ letters t
 unfolding tag_among
-tag_letters [] w t e = absurd (let o : ◌≡◌ {A = ℕ} 0 1 = cc in omega arith)
+tag_letters [] w t e = cc
 tag_letters (u ∷ ts) w t e =
-    by_test (same w (letters u)) (λ b. cond b (Record u) (tag_among ts w) ≡ Record t → w ≡ letters t)
+    by_test (same w (letters u)) (λ b. cond b (Some u) (tag_among ts w) ≡ Some t → w ≡ letters t)
     (λ b f. let s : u ≡ t = cc in same_true w (letters u) (is_true b) ∙ ap letters s) (λ b f. tag_letters ts w t f) e
 
-number_is : (f : Field) → is_number f ≡ true → f ≡ Number (field_number f)
-number_is (Number z) e = refl
-number_is Bad e = absurd (not_both e refl)
+number_is : (f : Option ℤ) → is_some f ≡ true → f ≡ Some (unwrap_or f (pos 0))
+number_is (Some z) e = refl
+number_is None e = absurd (not_both e refl)
 
 fields_written : (n : ℕ) (t : List ℕ) → 8 * n ≤ length t → all_numbers n t ≡ true → (take (8 * n) t ≡ fields false (numbers_in n t)) × (all_fit false (numbers_in n t) ≡ true)
 unfolding all_numbers numbers_in fields all_fit
 fields_written zero t k h = (refl, refl)
 fields_written (suc n) t k h =
-    let b = both (is_number (field_of (take 8 t))) (all_numbers n (drop 8 t)) h in
-    let z : ℤ = field_number (field_of (take 8 t)) in
-    let e : field_of (take 8 t) ≡ Number z = number_is (field_of (take 8 t)) b.0 in
+    let b = both (is_some (field_of (take 8 t))) (all_numbers n (drop 8 t)) h in
+    let z : ℤ = unwrap_or (field_of (take 8 t)) (pos 0) in
+    let e : field_of (take 8 t) ≡ Some z = number_is (field_of (take 8 t)) b.0 in
     let m : ℕ = length (numbers_in n (drop 8 t)) in
     let w : length (take 8 t) ≡ width_of false m = omega (arith, length-take 8 t, width_eight m) in
     let i = fields_written n (drop 8 t) (omega (arith, length-drop 8 t)) b.1 in (
@@ -152,34 +156,32 @@ values_front : (n : ℕ) (zs : List ℤ) → length zs ≡ n → zs ≡ take n (
 unfolding put_at
 values_front n zs e = sym (take_at zs (drop (length zs) zeros) n e)
 
-refused_record : {k : ℕ} {t : Tag} → Refused k ≡ Record t → ⊥
-refused_record e = let o : ◌≡◌ {A = ℕ} 0 1 = cc in omega arith
+module _ (l : List ℕ) (r : Record) where
+  -- of a line with tag u that was read as the record r
+  abbrev WrittenBy : Result Record Refusal → Type 0
+  WrittenBy x = x ≡ Ok r → Written r.tag (take (field_count r.tag) r.values) l
 
-module _ (l : List ℕ) (t : Tag) where
-  -- of a line with tag u that was read as a record with tag t
-  abbrev Result : TextLine → Type 0
-  Result x = x.kind ≡ Record t → Written t (take (field_count t) x.values) l
-
-  taken : (u : Tag) → take 3 l ≡ letters u → Result (record_in u l)
+  taken : (u : Tag) → take 3 l ≡ letters u → WrittenBy (record_in u l)
   unfolding record_in numbers_line
   taken u front =
       let n : ℕ = field_count u in
       let m : ℕ = 3 + 8 * n in
-      by_test (same (drop m l) (line_end m)) (λ b. Result (cond b (numbers_line u n (drop 3 l)) (refused_line 1)))
+      by_test (same (drop m l) (line_end m)) (λ b. WrittenBy (cond b (numbers_line u n (drop 3 l)) (Err NotARecord)))
       (λ end.
-      by_test (all_numbers n (drop 3 l)) (λ b. Result (cond b (record_line u (numbers_in n (drop 3 l))) (refused_line 2)))
+      by_test (all_numbers n (drop 3 l)) (λ b. WrittenBy (cond b (record_line u (numbers_in n (drop 3 l))) (Err BadField)))
       (λ h e.
-      let same_tag : u ≡ t = cc in
+      let zs : List ℤ = numbers_in n (drop 3 l) in
+      let is : (record { tag = u; values = put_at zeros 0 zs }) ≡ r = cc in
       let w = line_parts u l front (same_true (drop m l) (line_end m) (is_true end)) (is_true h) in
-      subst (λ (x : Tag). Written x (take (field_count x) (put_at zeros 0 (numbers_in n (drop 3 l)))) l) same_tag
-      (subst (λ (x : List ℤ). Written u x l) (values_front n (numbers_in n (drop 3 l)) w.count) w))
-      (λ h e. absurd (refused_record e)))
-      (λ end e. absurd (refused_record e))
+      subst (λ (x : Record). Written x.tag (take (field_count x.tag) x.values) l) is
+      (subst (λ (x : List ℤ). Written u x l) (values_front n zs w.count) w))
+      (λ h e. cc))
+      (λ end e. cc)
 
-  pub line_written : (line_in l).kind ≡ Record t → Written t (take (field_count t) (line_in l).values) l
+  pub line_written : line_in l ≡ Ok r → Written r.tag (take (field_count r.tag) r.values) l
   unfolding line_in
   line_written = go (tag_among tags (take 3 l)) refl
     where
-      go : (k : Kind) → tag_among tags (take 3 l) ≡ k → Result (line_of_kind k l)
-      go (Record u) q = taken u (tag_letters tags (take 3 l) u q)
-      go (Refused k) q = λ e. absurd (refused_record e)
+      go : (k : Option Tag) → tag_among tags (take 3 l) ≡ k → WrittenBy (line_of_tag k l)
+      go (Some u) q = taken u (tag_letters tags (take 3 l) u q)
+      go None q = λ e. cc

@@ -1,4 +1,4 @@
--- The loops of the parser: a turn of the one that counts blanks and of the one that reads digits; what a minus makes of a number; and powers of ten.
+-- A turn of the loop that reads digits, what a minus makes of a number, and powers of ten.
 use mathlib.Core.Path.{◌≡◌, refl, ap, ◌∙◌}
 use mathlib.Core.Bool.{Bool, false, cond}
 use mathlib.Core.List.{List}
@@ -6,8 +6,7 @@ use Prim.Native.Nat.{ℕ, zero, suc, ◌+◌, ◌-◌, ◌*◌, ◌^◌, ◌≤�
 use native.Mathlib.Nat.{pow-suc, pow-le-pow_right}
 use native.Mathlib.Numerals.{add-one}
 use native.Mathlib.Omega.{arith}
-use borrow.Author.Tests.{le-leb, lt-leb, eq-eqb, ne_eqb}
-use lib.Dec.{eqb}
+use borrow.Author.Tests.{le-leb, lt-leb}
 use lib.IntN.{ℤ, pos, negsuc, ◌-ℤ◌, +ℤ_idl}
 use lib.Signed.{◌≤ℤ◌, ◌<ℤ◌}
 use lib.ListN.{length, drop, get_or, drop_of_length-le}
@@ -16,27 +15,10 @@ use mir.Val.{SFits}
 use Rattle.numbers.proofs.Parts.{ints}
 use Rattle.numbers.proofs.Machine.{fits_as}
 use Rattle.numbers.proofs.Arrays.{drop_next}
-use Rattle.columns.specs.declared.parser.Field.TheVariants.{Number, Bad}
+use Rattle.std.specs.Prelude.{Some, None}
 use Rattle.columns.specs.Decimals.{value_of}
-use Rattle.columns.specs.code.Parser.{leading_blanks, is_digit, all_digits, digit_run, negated}
+use Rattle.columns.specs.code.Parser.{is_digit, all_digits, digit_run, negated}
 use Rattle.columns.proofs.Digits.{digit_yes}
-
--- ---- blanks
-
-module _ (bs : List ℕ) (i : ℕ) (h : i < length bs) where
-  blanks_turn : leading_blanks (drop i bs) ≡ cond (eqb (get_or bs i 0) 32) (leading_blanks (drop (i + 1) bs) + 1) 0
-  unfolding leading_blanks
-  blanks_turn = ap leading_blanks (drop_next bs i 0 h)
-
-  pub blanks_more : get_or bs i 0 ≡ 32 → leading_blanks (drop i bs) ≡ leading_blanks (drop (i + 1) bs) + 1
-  blanks_more e = blanks_turn ∙ ap (λ (t : Bool). cond t (leading_blanks (drop (i + 1) bs) + 1) 0) (eq-eqb (get_or bs i 0) 32 e)
-
-  pub blanks_stop : (get_or bs i 0 ≡ 32 → ⊥) → leading_blanks (drop i bs) ≡ 0
-  blanks_stop k = blanks_turn ∙ ap (λ (t : Bool). cond t (leading_blanks (drop (i + 1) bs) + 1) 0) (ne_eqb (get_or bs i 0) 32 k)
-
-pub blanks_end : (bs : List ℕ) (i : ℕ) → length bs ≤ i → leading_blanks (drop i bs) ≡ 0
-unfolding leading_blanks
-blanks_end bs i h = ap leading_blanks (drop_of_length-le bs h)
 
 -- ---- digits
 
@@ -65,25 +47,25 @@ module _ (bs : List ℕ) (i : ℕ) (h : i < length bs) where
   value_next n = ap (value_of n) (drop_next bs i 0 h)
 
 module _ (bs : List ℕ) where
-  pub run_bad : all_digits bs ≡ false → digit_run bs ≡ Bad
+  pub run_bad : all_digits bs ≡ false → digit_run bs ≡ None
   unfolding digit_run
-  run_bad e = ap (λ (t : Bool). cond t (Number (pos (value_of 0 bs))) Bad) e
+  run_bad e = ap (λ (t : Bool). cond t (Some (pos (value_of 0 bs))) None) e
 
-  pub run_number : (n i : ℕ) → length bs ≤ i → all_digits bs ≡ all_digits (drop i bs) → value_of 0 bs ≡ value_of n (drop i bs) → digit_run bs ≡ Number (pos n)
+  pub run_number : (n i : ℕ) → length bs ≤ i → all_digits bs ≡ all_digits (drop i bs) → value_of 0 bs ≡ value_of n (drop i bs) → digit_run bs ≡ Some (pos n)
   unfolding digit_run all_digits value_of
   run_number n i h a v =
       let e = drop_of_length-le bs h in
-      ap (λ (t : Bool). cond t (Number (pos (value_of 0 bs))) Bad) (a ∙ ap all_digits e) ∙ ap (λ (m : ℕ). Number (pos m)) (v ∙ ap (value_of n) e)
+      ap (λ (t : Bool). cond t (Some (pos (value_of 0 bs))) None) (a ∙ ap all_digits e) ∙ ap (λ (m : ℕ). Some (pos m)) (v ∙ ap (value_of n) e)
 
 -- ---- a minus before a number
 
-pub minus_above : (z : ℤ) → pos 0 <ℤ z → Number (pos 0 -ℤ z) ≡ negated (Number z)
+pub minus_above : (z : ℤ) → pos 0 <ℤ z → Some (pos 0 -ℤ z) ≡ negated (Some z)
 unfolding negated
 minus_above (pos zero) h = absurd (omega ints)
-minus_above (pos (suc n)) h = ap (λ (x : ℤ). Number x) (+ℤ_idl (negsuc n))
+minus_above (pos (suc n)) h = ap (λ (x : ℤ). Some x) (+ℤ_idl (negsuc n))
 minus_above (negsuc n) h = absurd (omega ints)
 
-pub minus_none : (z : ℤ) → z ≤ℤ pos 0 → Bad ≡ negated (Number z)
+pub minus_none : (z : ℤ) → z ≤ℤ pos 0 → None ≡ negated (Some z)
 unfolding negated
 minus_none (pos zero) h = refl
 minus_none (pos (suc n)) h = absurd (omega ints)

@@ -1,7 +1,7 @@
 -- Numbers in columns: written right-justified among blanks, and read back (document 01, 'The text book and the report').
-use Rattle.std.specs.Prelude.{Bool, true, false, cond, List, [], ◌∷◌, ◌++◌, ℕ, zero, suc, ◌+◌, ◌-◌, ◌*◌, ◌/◌, ◌%◌, eqb, leb, ltb, ℤ, pos, negsuc, neg_ℤ, length, replicate}
-use Rattle.columns.specs.declared.parser.Field.{Field}
-use Rattle.columns.specs.declared.parser.Field.TheVariants.{Number, Bad}
+use Rattle.std.specs.Prelude.{Bool, true, false, cond, Some, None, List, [], ◌∷◌, ◌++◌, ℕ, zero, suc, ◌+◌, ◌-◌, ◌*◌, ◌/◌, ◌%◌, eqb, leb, ltb, ℤ, pos, negsuc, neg_ℤ, length, replicate}
+use Rattle.std.specs.declared.option.Option.{Option}
+use Rattle.std.specs.Str.{bytes_eq}
 
 -- ---- written
 
@@ -36,10 +36,7 @@ pad k z = blanks (k - length (decimal z)) ++ decimal z
 
 -- whether two lists of bytes are equal
 unfoldable pub same : List ℕ → List ℕ → Bool
-same [] [] = true
-same [] (y ∷ ys) = false
-same (x ∷ xs) [] = false
-same (x ∷ xs) (y ∷ ys) = cond (eqb x y) (same xs ys) false
+same xs ys = bytes_eq xs ys
 
 -- the number with the digits of n, then the bytes as digits; a byte below the digit 0, as a blank or a minus, counts as 0
 unfoldable pub value_of : ℕ → List ℕ → ℕ
@@ -56,5 +53,5 @@ unfoldable pub candidate : List ℕ → ℤ
 candidate bs = cond (has_minus bs) (neg_ℤ (pos (value_of 0 bs))) (pos (value_of 0 bs))
 
 -- a field is a number exactly if its bytes are what writing that number in as many columns gives
-unfoldable pub field_of : List ℕ → Field
-field_of bs = cond (same bs (pad (length bs) (candidate bs))) (Number (candidate bs)) Bad
+unfoldable pub field_of : List ℕ → Option ℤ
+field_of bs = cond (same bs (pad (length bs) (candidate bs))) (Some (candidate bs)) None

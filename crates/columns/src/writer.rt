@@ -1,46 +1,22 @@
 // Lines written into a lent buffer.
-ghost use Rattle.std.specs.Prelude.{◌≡◌, true, false, ◌&&◌, ◌++◌, ◌+◌, ◌-◌, ◌≤◌, leb, length};
+ghost use Rattle.std.specs.Prelude.{◌≡◌, true, ◌&&◌, ◌++◌, ◌+◌, ◌-◌, ◌<◌, ◌≤◌, leb, length};
 ghost use Rattle.numbers.specs.Numbers.{put_at};
 ghost use Rattle.columns.specs.Buffers.{placed};
-ghost use Rattle.columns.specs.Decimals.{blanks, digits, decimal, fits_in, pad};
+ghost use Rattle.columns.specs.Decimals.{digits, decimal, fits_in, pad};
 ghost use Rattle.columns.specs.Lines.{width_of, fields, all_fit, columns_of, line_fits, line_with, tag_line, is_wide, title};
 
-use roots::limits::magnitude;
-
-// The bytes of s from index at on.
-#[tactic(auto, using(crate::proofs::Sets::put_bytes))]
-fn put_bytes(buf: &mut [u8], at: usize, s: &[u8])
-    requires { at + length s.now ≤ length buf.old }
-    ensures { buf.new ≡ put_at buf.old at s.now }
-{
-    for i in 0..s.len() {
-        buf[at + i] = s[i];
-    }
-}
-
-// n blanks from index at on.
-#[tactic(auto, using(crate::proofs::Sets::put_blanks))]
-fn put_blanks(buf: &mut [u8], at: usize, n: usize)
-    requires { at + n ≤ length buf.old }
-    ensures { buf.new ≡ put_at buf.old at (blanks n) }
-{
-    for i in 0..n {
-        buf[at + i] = b' ';
-    }
-}
+use super::BLANK_LINE;
+use itoa::Buffer;
 
 // How many digits x has.
 #[tactic(auto, using(crate::proofs::Sets::count_digits))]
 fn count_digits(x: u64) -> usize
     ensures { result ≡ length (digits x) }
 {
-    let mut n = x;
-    let mut k = 1;
-    while 10 <= n {
-        n /= 10;
-        k += 1;
+    match x.checked_ilog10() {
+        Some(k) => k as usize + 1,
+        None => 1,
     }
-    k
 }
 
 // Whether x fits k columns.
@@ -48,135 +24,109 @@ fn count_digits(x: u64) -> usize
 pub fn fits(x: i64, k: usize) -> bool
     ensures { result ≡ fits_in k x }
 {
-    let n = count_digits(magnitude(x));
+    let n = count_digits(x.unsigned_abs());
     if x < 0 { n < k } else { n <= k }
 }
 
-// The digits of x up to index end: the index of the first.
-#[tactic(auto, using(crate::proofs::Sets::put_digits))]
-fn put_digits(buf: &mut [u8], end: usize, x: u64) -> usize
-    requires { (length (digits x) ≤ end) × (end ≤ length buf.old) }
-    ensures x_value { result + length (digits x) ≡ end }
-    ensures buf_after { buf.new ≡ put_at buf.old result (digits x) }
-{
-    let mut n = x;
-    let mut last = end - 1;
-    while 10 <= n {
-        buf[last] = b'0' + (n % 10) as u8;
-        n /= 10;
-        last -= 1;
-    }
-    buf[last] = b'0' + (n % 10) as u8;
-    last
-}
-
-// x in decimal up to index end: the index of its first byte.
-#[tactic(auto, using(crate::proofs::Sets::put_decimal))]
-fn put_decimal(buf: &mut [u8], end: usize, x: i64) -> usize
-    requires { (length (decimal x) ≤ end) × (end ≤ length buf.old) }
-    ensures x_value { result + length (decimal x) ≡ end }
-    ensures buf_after { buf.new ≡ put_at buf.old result (decimal x) }
-{
-    let first = put_digits(buf, end, magnitude(x));
-    if x < 0 {
-        buf[first - 1] = b'-';
-        return first - 1;
-    }
-    first
-}
-
-// x right-justified in k columns from index at on.
+// x right-justified in a field.
 #[tactic(auto, using(crate::proofs::Sets::put_number))]
-fn put_number(buf: &mut [u8], at: usize, x: i64, k: usize)
-    requires { (fits_in k x ≡ true) × (at + k ≤ length buf.old) }
-    ensures { buf.new ≡ put_at buf.old at (pad k x) }
+fn put_number(field: &mut [u8], x: i64)
+    requires { fits_in (length field.old) x ≡ true }
+    ensures { field.new ≡ pad (length field.old) x }
 {
-    let first = put_decimal(buf, at + k, x);
-    put_blanks(buf, at, first - at);
+    let mut buffer = Buffer::new();
+    let text = buffer.format(x).as_bytes();
+    let blanks = field.len() - text.len();
+    let (front, number) = field.split_at_mut(blanks);
+    front.fill(b' ');
+    number.copy_from_slice(text);
 }
 
-// The columns of a field with `after` more fields after it.
-#[tactic(auto, using(crate::proofs::Sets::width_of), unfolding(crate::specs::Lines::width_of))]
-fn width_of(wide: bool, after: usize) -> usize
-    ensures { result ≡ width_of wide after }
-{
-    if after != 0 {
-        return 8;
-    }
-    if wide { 16 } else { 8 }
+// The numbers of a line, each in a field of eight columns, the last in one of sixteen where it is wide.
+#[derive(Clone, Copy)]
+struct Row<'a> {
+    numbers: &'a [i64],
+    wide: bool,
 }
 
-// The columns of n fields.
-#[tactic(auto, using(crate::proofs::Sets::columns_of), unfolding(crate::specs::Lines::columns_of))]
-fn columns_of(wide: bool, n: usize) -> usize
-    requires { n ≤ 10 }
-    ensures { result ≡ columns_of wide n }
-{
-    if n == 0 {
-        return 0;
-    }
-    if wide { 8 * n + 8 } else { 8 * n }
-}
-
-// Whether each number fits its field.
-#[tactic(auto, using(crate::proofs::Sets::all_fit), unfolding(crate::specs::Lines::all_fit))]
-fn all_fit(numbers: &[i64], wide: bool) -> bool
-    ensures { result ≡ all_fit wide numbers.now }
-{
-    for i in 0..numbers.len() {
-        if !fits(numbers[i], width_of(wide, numbers.len() - (i + 1))) {
-            return false;
+impl Row<'_> {
+    // The columns of field i.
+    #[tactic(auto, using(crate::proofs::Sets::width_of), unfolding(crate::specs::Lines::width_of))]
+    fn width(&self, i: usize) -> usize
+        requires { i < length self.now.numbers.now }
+        ensures { result ≡ width_of self.now.wide (length self.now.numbers.now - (i + 1)) }
+    {
+        if self.wide && i + 1 == self.numbers.len() {
+            16
+        } else {
+            8
         }
     }
-    true
+
+    // The columns of all fields.
+    #[tactic(auto, using(crate::proofs::Sets::columns_of), unfolding(crate::specs::Lines::columns_of))]
+    fn columns(&self) -> usize
+        requires { length self.now.numbers.now ≤ 10 }
+        ensures { result ≡ columns_of self.now.wide (length self.now.numbers.now) }
+    {
+        let narrow = 8 * self.numbers.len();
+        if self.wide && !self.numbers.is_empty() {
+            narrow + 8
+        } else {
+            narrow
+        }
+    }
+
+    // Whether each number fits its field.
+    #[tactic(auto, using(crate::proofs::Sets::all_fit), unfolding(crate::specs::Lines::all_fit))]
+    fn fit(&self) -> bool
+        ensures { result ≡ all_fit self.now.wide self.now.numbers.now }
+    {
+        for (i, x) in self.numbers.iter().enumerate() {
+            if !fits(*x, self.width(i)) {
+                return false;
+            }
+        }
+        true
+    }
+
+    // Whether a line has room for the fields behind a tag of this length, and each number fits its field.
+    #[tactic(auto, using(crate::proofs::Sets::line_fits))]
+    fn fit_behind(&self, letters: usize) -> bool
+        ensures { result ≡ line_fits letters self.now.numbers.now self.now.wide }
+    {
+        letters <= 83 && self.numbers.len() <= 10 && letters + self.columns() <= 83 && self.fit()
+    }
+
+    // The fields, one after the other.
+    #[tactic(auto, using(crate::proofs::Sets::put_fields), unfolding(crate::specs::Lines::fields))]
+    fn put(&self, columns: &mut [u8])
+        requires fit { all_fit self.now.wide self.now.numbers.now ≡ true }
+        requires room { length columns.old ≡ columns_of self.now.wide (length self.now.numbers.now) }
+        ensures { columns.new ≡ fields self.now.wide self.now.numbers.now }
+    {
+        let mut next = 0;
+        for (i, x) in self.numbers.iter().enumerate() {
+            let end = next + self.width(i);
+            put_number(&mut columns[next..end], *x);
+            next = end;
+        }
+    }
 }
 
-// Whether a line has room for a tag of this length and the numbers, and each number fits its field.
-#[tactic(auto, using(crate::proofs::Sets::line_fits))]
-fn line_fits(letters: usize, numbers: &[i64], wide: bool) -> bool
-    ensures { result ≡ line_fits letters numbers.now wide }
-{
-    if 83 < letters {
-        return false;
-    }
-    if 10 < numbers.len() {
-        return false;
-    }
-    if 83 < letters + columns_of(wide, numbers.len()) {
-        return false;
-    }
-    all_fit(numbers, wide)
-}
-
-// The numbers in fields from index at on.
-#[tactic(auto, using(crate::proofs::Sets::put_fields), unfolding(crate::specs::Lines::fields))]
-fn put_fields(buf: &mut [u8], at: usize, numbers: &[i64], wide: bool)
-    requires numbers_value { all_fit wide numbers.now ≡ true }
-    requires numbers_in_bounds { at + columns_of wide (length numbers.now) ≤ length buf.old }
-    ensures { buf.new ≡ put_at buf.old at (fields wide numbers.now) }
-{
-    let mut next = at;
-    for i in 0..numbers.len() {
-        let k = width_of(wide, numbers.len() - (i + 1));
-        put_number(buf, next, numbers[i], k);
-        next += k;
-    }
-}
-
-// The line of a tag and numbers that fit it, where the buffer has room for it.
+// The line of a tag and a row that fit it.
 #[tactic(auto, using(crate::proofs::Sets::write_line), unfolding(crate::specs::Lines::line_end, crate::specs::Decimals::blanks))]
-fn write_line(buf: &mut [u8], at: usize, tag: &[u8], numbers: &[i64], wide: bool)
-    requires wide_value { line_fits (length tag.now) numbers.now wide ≡ true }
-    requires at_in_bounds { at + 84 ≤ length buf.old }
-    ensures { buf.new ≡ put_at buf.old at (line_with (tag.now ++ fields wide numbers.now)) }
+fn write_line(line: &mut [u8], tag: &[u8], row: &Row)
+    requires fit { line_fits (length tag.now) row.now.numbers.now row.now.wide ≡ true }
+    requires room { length line.old ≡ 84 }
+    ensures { line.new ≡ line_with (tag.now ++ fields row.now.wide row.now.numbers.now) }
 {
-    let letters = tag.len();
-    let used = letters + columns_of(wide, numbers.len());
-    put_bytes(buf, at, tag);
-    put_fields(buf, at + letters, numbers, wide);
-    let blank: &[u8] =
-        b"                                                                                   \n";
-    put_bytes(buf, at + used, &blank[used..84]);
+    let (front, rest) = line.split_at_mut(tag.len());
+    let (columns, end) = rest.split_at_mut(row.columns());
+    front.copy_from_slice(tag);
+    row.put(columns);
+    let blank = BLANK_LINE.as_slice();
+    end.copy_from_slice(&blank[84 - end.len()..]);
 }
 
 // The line of a tag and numbers from index at on, the last field wide or not: whether it was written. Nothing is where they do not fit, or the
@@ -186,16 +136,11 @@ pub fn put_line(buf: &mut [u8], at: usize, tag: &[u8], numbers: &[i64], wide: bo
     ensures value { result ≡ line_fits (length tag.now) numbers.now wide && leb (at + 84) (length buf.old) }
     ensures buf_after { buf.new ≡ placed buf.old at (tag_line tag.now numbers.now wide) }
 {
-    if !line_fits(tag.len(), numbers, wide) {
+    let row = Row { numbers, wide };
+    if !row.fit_behind(tag.len()) || buf.len() < 84 || buf.len() - 84 < at {
         return false;
     }
-    if buf.len() < 84 {
-        return false;
-    }
-    if buf.len() - 84 < at {
-        return false;
-    }
-    write_line(buf, at, tag, numbers, wide);
+    write_line(&mut buf[at..at + 84], tag, &row);
     true
 }
 
@@ -205,8 +150,7 @@ pub fn put_title(buf: &mut [u8], at: usize) -> bool
     ensures value { result ≡ leb (at + 84) (length buf.old) }
     ensures buf_after { buf.new ≡ placed buf.old at title }
 {
-    let none = [0i64; 0];
-    put_line(buf, at, b"REDUCED LEVELS", &none, false)
+    put_line(buf, at, b"REDUCED LEVELS", &[], false)
 }
 
 // Whether a height takes a wide field.

@@ -5,8 +5,9 @@ use mathlib.Core.List.{List, [], ◌∷◌, ◌++◌, map}
 use Prim.Native.Nat.{ℕ, zero, suc, ◌+◌, ◌*◌, ◌≤◌}
 use native.Mathlib.Omega.{arith}
 use borrow.Author.Tests.{ltb-false}
-use lib.ListN.{length, take, drop, length-append, length-drop, length-map}
+use lib.ListN.{length, drop, length-append, length-drop, length-map}
 use lib.IntN.{ℤ, pos, ◌*ℤ◌}
+use Rattle.std.specs.Prelude.{Some, None, take}
 use Rattle.adjust.specs.declared.Point.{Point}
 use Rattle.adjust.specs.Line.{line_frame, Closing}
 use Rattle.adjust.proofs.Lists.{points_length}
@@ -118,9 +119,12 @@ unfolding report lines
 report_fits text h = lines_fit (lines text) (omega (arith, text_lines (length text) text))
 
 pub printed_fits : PrintedFits
-printed_fits input n true = omega arith
-printed_fits input n false = go (too_long (take n input)) refl
+printed_fits input None = omega arith
+printed_fits input (Some n) = go (take n input)
   where
-    go : (b : Bool) → too_long (take n input) ≡ b → length (cond b (ref_line (record { line = 0; number = 9 })) (report (take n input))) ≤ 65536
-    go true e = omega (arith, ref_short (record { line = 0; number = 9 }))
-    go false e = report_fits (take n input) (ltb-false most_text (length (take n input)) e)
+    by : (t : List ℕ) (b : Bool) → too_long t ≡ b → length (cond b (ref_line (record { line = 0; number = 9 })) (report t)) ≤ 65536
+    by t true e = omega (arith, ref_short (record { line = 0; number = 9 }))
+    by t false e = report_fits t (ltb-false most_text (length t) e)
+
+    go : (t : List ℕ) → length (cond (too_long t) (ref_line (record { line = 0; number = 9 })) (report t)) ≤ 65536
+    go t = by t (too_long t) refl

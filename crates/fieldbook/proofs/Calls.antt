@@ -35,7 +35,7 @@ every_text ls e =
       closing = every_list (calls_of ls) shut;
       printed =
           ap (λ (s : Stage). cond (is_closed s) (closing_lines (figures_of r)) (opn_line (length r.sections) ∷ [])) e
-          ∙ ap closing_lines (ap figures_of same ∙ same_figures (calls_of ls) shut);
+          ∙ ap closing_lines (ap figures_of same ∙ same_figures (every_list (calls_of ls) shut));
     }
 
 pub text_as_made : TextAsMade

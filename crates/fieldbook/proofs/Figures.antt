@@ -1,13 +1,12 @@
 -- How large the figures of a line can be: W, and the height and the correction of a point; and that T is not below 0.
 use mathlib.Core.Path.{◌≡◌, ap}
-use mathlib.Core.Bool.{Bool, true, false, not, cond, ◌||◌}
+use mathlib.Core.Bool.{Bool, true, false, cond}
 use mathlib.Core.List.{List, [], ◌∷◌, map}
 use Prim.Native.Nat.{ℕ, ◌+◌, ◌*◌, ◌≤◌, ◌<◌}
 use native.Mathlib.Nat.{mul-le-mul, le_of_mul-le-mul_left}
 use native.Mathlib.Omega.{arith}
-use lib.Dec.{ltb}
 use lib.IntN.{ℤ, pos, nat_abs, ◌+ℤ◌, ◌-ℤ◌, ◌*ℤ◌}
-use lib.Signed.{◌≤ℤ◌, le_z}
+use lib.Signed.{◌≤ℤ◌}
 use Rattle.numbers.specs.Numbers.{sum, within}
 use Rattle.numbers.proofs.Tests.{and_l, and_r}
 use Rattle.numbers.proofs.All.{All, all_head}
@@ -19,7 +18,9 @@ use Rattle.adjust.specs.declared.terms.Class.{Class}
 use Rattle.adjust.specs.declared.terms.Class.TheVariants.{Third, Fourth, Spur}
 use Rattle.adjust.specs.declared.Section.{Section}
 use Rattle.adjust.specs.declared.Frame.{Frame}
-use Rattle.adjust.specs.Line.{exact_top, accidental, accidental_sum, verdict}
+use Rattle.adjust.specs.declared.Verdict.{Verdict}
+use Rattle.adjust.specs.declared.Verdict.TheVariants.{NotGiven, Within, Above}
+use Rattle.adjust.specs.Line.{exact_top, accidental, accidental_sum, verdict_number}
 use Rattle.adjust.proofs.Lists.{Fit, fit_head, fit_tail}
 use Rattle.adjust.specs.declared.terms.Terms.{Terms}
 use Rattle.adjust.specs.Sizes.{most_l}
@@ -64,13 +65,10 @@ sum_low terms squared u ss f = go terms.double
     go true = all ss f
     go false = omega ints
 
-pub verdict_small : (t : Terms) (n : ℕ) (z : ℤ) → verdict t n z ≤ 2
-verdict_small t n z = go (not t.double || ltb n 20) (le_z z (t.accidental *ℤ pos n))
-  where
-    go : (few good : Bool) → cond few 0 (cond good 1 2) ≤ 2
-    go true good = omega arith
-    go false true = omega arith
-    go false false = omega arith
+pub verdict_small : (v : Verdict) → verdict_number v ≤ 2
+verdict_small NotGiven = omega arith
+verdict_small Within = omega arith
+verdict_small Above = omega arith
 
 -- W, by the test 36, of a line of 64 sections at most
 abbrev pub most_closure : ℕ

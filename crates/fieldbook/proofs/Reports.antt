@@ -1,45 +1,44 @@
 -- The report of the reader's state is the report of the text.
 use mathlib.Core.Path.{◌≡◌, refl, sym, ap, subst, ◌∙◌}
-use mathlib.Core.Bool.{Bool, true, false, not, cond}
+use mathlib.Core.Bool.{Bool, true, not, cond}
 use mathlib.Core.List.{List, [], ◌∷◌, ◌++◌, map}
 use Prim.Native.Nat.{ℕ, ◌≤◌, ◌<◌}
 use native.Mathlib.Omega.{arith}
-use borrow.Author.Tests.{lt-ltb, le-ltb}
-use lib.Dec.{ltb, eqb}
-use lib.ListN.{length, length-map, take}
-use Rattle.numbers.specs.Numbers.{any_of, put_at, filled}
-use Rattle.numbers.specs.Tables.{Lowest}
-use Rattle.numbers.proofs.Tests.{by_test}
-use Rattle.numbers.proofs.Tables.{first_lowest, number_cond, cond_of}
-use Rattle.numbers.proofs.Filled.{filled_length}
+use borrow.Author.Tests.{lt-ltb, le-ltb, ltb-false}
+use lib.Dec.{eqb, ltb}
+use lib.ListN.{length, length-map}
+use lib.IntN.{pos}
+use Rattle.std.specs.Prelude.{Ok, Err}
+use Rattle.numbers.specs.Numbers.{any_of, put_at}
+use Rattle.numbers.specs.Tables.{Lowest, first_of}
+use Rattle.numbers.proofs.Tests.{by_test, is_false}
+use Rattle.numbers.proofs.Tables.{first_lowest}
+use Rattle.records.specs.declared.Refusal.{Refusal as Refused}
+use Rattle.records.specs.Refusals.{refusal_number}
+use Rattle.records.proofs.Numbered.{not_zero}
 use Rattle.adjust.specs.declared.Point.{Point}
-use Rattle.adjust.specs.declared.Summary.{Summary}
 use Rattle.adjust.specs.Line.{line_frame, Closing}
-use Rattle.adjust.specs.Frames.{no_point}
+use Rattle.adjust.specs.Sections.{holding}
+use Rattle.adjust.specs.Frames.{adjusted_of}
 use Rattle.columns.specs.Decimals.{same}
 use Rattle.columns.specs.Lines.{heading, title}
 use Rattle.columns.specs.Texts.{lines, joined}
 use Rattle.rules.specs.declared.Stage.{Stage}
 use Rattle.rules.specs.declared.Stage.TheVariants.{Fresh, Open, Closed}
-use Rattle.rules.specs.LineState.{is_closed}
-use Rattle.book.specs.declared.CloseAnswer.{CloseAnswer}
-use Rattle.book.specs.declared.ClosedFigures.{ClosedFigures}
-use Rattle.book.specs.Calls.{close_number, close_figures, closing_in, figures_of}
-use Rattle.rules.specs.Rules.{Call}
-use Rattle.adjust.specs.Sections.{holding}
+use Rattle.rules.specs.LineState.{LineState, is_closed}
+use Rattle.rules.specs.Rules.{Call, close_line, figures_tests}
+use Rattle.book.specs.Calls.{closing_in, closing_of, figures_refusal}
 use Rattle.ledger.specs.Plain as Plain
 use Rattle.ledger.specs.Plain.{Reading, fresh_reading, after, plain_state, section_of}
-use Rattle.ledger.proofs.Kept.{Kept, fresh_kept, calls_kept}
-use Rattle.ledger.proofs.Again.{book_of, fresh_holds, figures_held, figures_again}
+use Rattle.ledger.proofs.Kept.{Kept, fresh_kept, calls_kept, kept_unbroken}
+use Rattle.ledger.proofs.Again.{book_of, held, figures_number, fresh_holds}
 use Rattle.ledger.proofs.Traced.{points_back}
 use Rattle.ledger.proofs.Entries.{reading_calls, refusals_long}
-use Rattle.fieldbook.specs.declared.Reduced.{Reduced}
-use Rattle.fieldbook.specs.declared.Reduced.TheVariants.{Written, Refused}
-use Rattle.textbook.specs.Text.{most_text, line_entry, entries, line_refusals, reading_after, refusals_from, calls_of}
-use Rattle.fieldbook.specs.Report.{ref_line, opn_line, closing_lines, result_lines, report_of, without_heading, report_lines, report, text_tests, text_refusal, buffer_after, reduced_number, reduced_length, reduced_as, reduced_of, Reduces, printed_for, printed_of}
+use Rattle.textbook.specs.Text.{most_text, too_long, line_entry, entries, line_refusals, reading_after, refusals_from, calls_of}
+use Rattle.fieldbook.specs.Report.{ref_line, opn_line, closing_lines, result_lines, report_of, without_heading, report_lines, report, too_small, text_tests, text_refusal, buffer_after, Reduces, printed_for}
 use Rattle.fieldbook.specs.Fits.{closed_fits, point_fits}
 use Rattle.textbook.specs.code.State.{read, unread, text_state}
-use Rattle.fieldbook.specs.code.Printed.{refusal_bytes, answer_lines, book_lines, state_lines, Printable}
+use Rattle.fieldbook.specs.code.Printed.{refusal_bytes, told_of, book_lines, state_lines, Printable}
 use Rattle.fieldbook.proofs.Bytes.{text_lines}
 use Rattle.fieldbook.proofs.Widths.{figures_fit_lem}
 use Rattle.textbook.proofs.Lines.{refusals_filled}
@@ -52,10 +51,17 @@ closed_stage Open e = let z : ◌≡◌ {A = ℕ} 0 1 = cc in absurd (omega arit
 closed_stage Closed e = refl
 
 module _ (r : Reading) (k : Kept (plain_state r)) where
-  -- the points, read back from their array
-  given_back : closing_in (Plain.figures_of r).summary (filled no_point 65 (Plain.figures_of r).points) ≡ Plain.figures_of r
-  given_back =
-      λ i. record { summary = (Plain.figures_of r).summary; points = points_back (line_frame r.opening r.end (plain_state r).sections) r.opening.start.number (plain_state r).sections k.few i }
+  -- what it tells is the plain reading's closing, the points read back from their array
+  told : closing_in (told_of (book_of r)) ≡ Plain.figures_of r
+  told =
+      ap (λ (v : LineState). closing_in (adjusted_of (closing_of v))) (held r refl)
+      ∙ (λ i. record { summary = (Plain.figures_of r).summary; points = points_back (line_frame r.opening r.end (plain_state r).sections) r.opening.start.number (plain_state r).sections k.few i })
+
+  -- it is asked in vain unless the line is closed
+  told_number : figures_refusal (book_of r) ≡ cond (is_closed r.stage) 0 21
+  told_number =
+      figures_number r k refl
+      ∙ by_test (is_closed r.stage) (λ t. ◌≡◌ {A = ℕ} (cond (not t) 21 0) (cond t 0 21)) (λ t. refl) (λ t. refl)
 
   sections_many : (book_of r).sections.count ≡ length r.sections
   unfolding holding
@@ -63,40 +69,27 @@ module _ (r : Reading) (k : Kept (plain_state r)) where
 
   book_lines_lem : book_lines (book_of r) ≡ result_lines r
   book_lines_lem =
-      ap (λ (f : ClosedFigures). answer_lines (book_of r) f.points f.answer) (figures_held r k)
+      (λ i. cond (eqb (told_number i) 0) (closing_lines (told i)) (opn_line (sections_many i) ∷ []))
       ∙ by_test (is_closed r.stage)
-      (λ t. let f : ClosedFigures = close_figures (cond (not t) 21 0) (Plain.figures_of r) in answer_lines (book_of r) f.points f.answer
+      (λ t. cond (eqb (cond t 0 21) 0) (closing_lines (Plain.figures_of r)) (opn_line (length r.sections) ∷ [])
       ≡ cond t (closing_lines (Plain.figures_of r)) (opn_line (length r.sections) ∷ []))
-      (λ t. ap closing_lines given_back) (λ t. ap (λ (n : ℕ). opn_line n ∷ []) sections_many)
+      (λ t. refl) (λ t. refl)
 
-  -- figures that are told are those of a closed line
-  told : (s : Summary) → (figures_of (book_of r)).answer ≡ CloseAnswer.Closed s → (r.stage ≡ Closed) × ((Plain.figures_of r).summary ≡ s)
-  told s e = go (is_closed r.stage) refl
-    where
-      held : CloseAnswer → Summary
-      held (CloseAnswer.Closed x) = x
-      held (CloseAnswer.NotClosed n) = s
-
-      answer : {t : Bool} → is_closed r.stage ≡ t → (close_figures (cond (not t) 21 0) (Plain.figures_of r)).answer ≡ CloseAnswer.Closed s
-      answer h = sym (ap (λ (f : ClosedFigures). f.answer) (figures_held r k) ∙ (λ i. (close_figures (cond (not (h i)) 21 0) (Plain.figures_of r)).answer)) ∙ e
-
-      go : (t : Bool) → is_closed r.stage ≡ t → (r.stage ≡ Closed) × ((Plain.figures_of r).summary ≡ s)
-      go true h = (closed_stage r.stage h, ap held (answer h))
-      go false h = let z : ◌≡◌ {A = ℕ} 21 0 = ap close_number (answer h) in absurd (omega arith)
+  told_closed : figures_refusal (book_of r) ≡ 0 → r.stage ≡ Closed
+  told_closed e =
+      closed_stage r.stage (by_test (is_closed r.stage) (λ t. ◌≡◌ {A = ℕ} (cond t 0 21) 0 → t ≡ true) (λ t z. refl) (λ t z. absurd (omega (arith, z))) (sym told_number ∙ e))
 
 -- of the book that a list of calls leaves
 calls_printable : (calls : List Call) → Printable (book_of (after fresh_reading calls))
 calls_printable calls =
     record {
       few = omega (arith, sections_many r k, sections_kept);
-      closing = λ s e. let t = told r k s e in
-          let points = ap (λ (f : ClosedFigures). f.points) (figures_again r k t.0) in
+      closing = λ e. let fits = figures_fit_lem calls (told_closed r k e) in
+          let same = told r k in
           record {
-            few = subst (λ (x : Summary). x.count ≤ 64) t.1 k.few;
-            places = ap length points ∙ filled_length no_point 65 (Plain.figures_of r).points;
-            summary = ap closed_fits (sym t.1) ∙ (figures_fit_lem calls t.0).0;
-            points =
-                ap (λ (c : Closing). any_of (λ (p : Point). not (point_fits p)) c.points) ((λ i. closing_in (sym t.1 i) (points i)) ∙ given_back r k) ∙ (figures_fit_lem calls t.0).1;
+            few = omega (arith, k.few, ap (λ (c : Closing). c.summary.count) same);
+            summary = ap (λ (c : Closing). closed_fits c.summary) same ∙ fits.0;
+            points = ap (λ (c : Closing). any_of (λ (p : Point). not (point_fits p)) c.points) same ∙ fits.1;
           };
     }
   where
@@ -163,32 +156,29 @@ module _ (t : List ℕ) (h : length t ≤ most_text) where
 -- ---- the call
 
 module _ (t d : List ℕ) where
-  -- what is answered and left of the buffer with the number n
-  pub answered : (n : ℕ) → text_refusal t d ≡ n → (reduced_of t d ≡ reduced_as n (length (report t))) × (buffer_after t d ≡ cond (ltb 0 n) d (put_at d 0 (report t)))
-  unfolding reduced_of buffer_after
-  answered n e = (ap (λ (k : ℕ). reduced_as k (length (report t))) e, ap (λ (k : ℕ). cond (ltb 0 k) d (put_at d 0 (report t))) e)
-
-  -- the number and the length that an answer has
-  pub reduces : {r : Reduced} → r ≡ reduced_of t d → Reduces t d r
-  unfolding reduced_of
-  reduces e =
-      let n : ℕ = text_refusal t d in
-      let long : ℕ = length (report t) in (
-        e,
-        (
-          ap reduced_number e ∙ number_cond reduced_number n (Written long) (Refused n) refl refl,
-          λ old. ap (λ (x : Reduced). reduced_length x old) e ∙ cond_of (λ (x : Reduced). reduced_length x old) (eqb n 0) (Written long) (Refused n),
-        ),
-      )
-
   -- 9 before 10
   pub text_lowest : Lowest (λ n. n) (text_tests t d) (text_refusal t d)
   unfolding text_refusal
   text_lowest = first_lowest (λ n. n) (text_tests t d) 0 refl
 
-  pub too_long_lem : most_text < length t → text_refusal t d ≡ 9
+  -- a refusal is answered, and the buffer is left as it was
+  pub refused : (x : Refused) → text_refusal t d ≡ refusal_number x → Reduces t d (Err x) × (d ≡ buffer_after t d)
+  unfolding buffer_after
+  refused x e =
+      let some : 0 < text_refusal t d = omega (arith, e, not_zero x) in
+      (record { number = sym e; written = tt }, sym (ap (λ (b : Bool). cond b d (put_at d 0 (report t))) (lt-ltb 0 (text_refusal t d) some)))
+
+  -- or the report is, and written
+  pub reported : {n : ℕ} {r : List ℕ} → text_refusal t d ≡ 0 → n ≡ length (report t) → r ≡ put_at d 0 (report t) → Reduces t d (Ok n) × (r ≡ buffer_after t d)
+  unfolding buffer_after
+  reported e p q = (record { number = sym e; written = p }, q ∙ sym (ap (λ (n : ℕ). cond (ltb 0 n) d (put_at d 0 (report t))) e))
+
+  -- by what is answered of the text when it is read
+  pub unread_text : (x : Refused) → refusal_number x ≡ cond (too_long t) 9 0 → text_refusal t d ≡ refusal_number x
   unfolding text_refusal
-  too_long_lem h = rw (lt-ltb most_text (length t) h)
+  unread_text x e =
+      by_test (too_long t) (λ b. refusal_number x ≡ cond b 9 0 → first_of ((9, b) ∷ (10, too_small d) ∷ []) ≡ refusal_number x) (λ b h. sym h)
+      (λ b h. absurd (not_zero x h)) e
 
   pub too_small_lem : length t ≤ most_text → length d < 65536 → text_refusal t d ≡ 10
   unfolding text_refusal
@@ -198,14 +188,24 @@ module _ (t d : List ℕ) where
   unfolding text_refusal
   not_refused h g = rw (le-ltb most_text (length t) h, le-ltb (length d) 65536 g)
 
+pub read_short : (t : List ℕ) → ◌≡◌ {A = ℕ} 0 (cond (too_long t) 9 0) → length t ≤ most_text
+read_short t =
+    by_test (too_long t) (λ b. ◌≡◌ {A = ℕ} 0 (cond b 9 0) → length t ≤ most_text) (λ long e. absurd (omega (arith, e)))
+    (λ short e. ltb-false most_text (length t) (is_false short))
+
 -- ---- the program
 
-pub prints_report : (t : List ℕ) → length t ≤ most_text → printed_for t ≡ report t
-prints_report t h = ap (λ (b : Bool). cond b (refusal_bytes 0 9) (report t)) (le-ltb most_text (length t) h)
+module _ (t d : List ℕ) where
+  -- of a text that is taken the report is printed
+  pub prints_report : ◌≡◌ {A = ℕ} 0 (text_refusal t d) → report t ≡ printed_for t
+  unfolding text_refusal
+  prints_report =
+      by_test (too_long t) (λ b. ◌≡◌ {A = ℕ} 0 (first_of ((9, b) ∷ (10, too_small d) ∷ [])) → report t ≡ cond b (refusal_bytes 0 9) (report t))
+      (λ b e. absurd (omega (arith, e))) (λ b e. refl)
 
-module _ (input : List ℕ) (n : ℕ) where
-  pub prints_nothing : (failed : Bool) → failed ≡ true → printed_of input n failed ≡ []
-  prints_nothing failed e = ap (printed_of input n) e
-
-  pub prints_text : (failed : Bool) (s : List ℕ) → failed ≡ false → printed_for (take n input) ≡ s → printed_of input n failed ≡ s
-  prints_text failed s e p = ap (printed_of input n) e ∙ p
+  -- of one that is refused for its length alone, that refusal
+  pub prints_refusal : (x : Refused) → 65536 ≤ length d → refusal_number x ≡ text_refusal t d → refusal_bytes 0 9 ≡ printed_for t
+  unfolding text_refusal
+  prints_refusal x h =
+      by_test (too_long t) (λ b. refusal_number x ≡ first_of ((9, b) ∷ (10, too_small d) ∷ []) → refusal_bytes 0 9 ≡ cond b (refusal_bytes 0 9) (report t)) (λ b e. refl)
+      (λ b e. absurd (not_zero x (e ∙ ap (λ (s : Bool). cond s 10 0) (le-ltb (length d) 65536 h))))

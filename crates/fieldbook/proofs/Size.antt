@@ -2,12 +2,13 @@
 use mathlib.Core.Path.{◌≡◌, refl, sym}
 use mathlib.Core.Bool.{true, false, cond, ◌||◌}
 use mathlib.Core.List.{List, [], ◌∷◌}
-use mathlib.Core.Option.{Option, none, some}
 use Prim.Native.Nat.{ℕ, zero, suc, ◌+◌, ◌*◌, ◌%◌, ◌≤◌}
 use native.Mathlib.Omega.{arith}
 use lib.Dec.{eqb, eqb→eq}
 use lib.ListN.{length, length-append}
 use lib.IntN.{ℤ}
+use Rattle.std.specs.Prelude.{Some, None}
+use Rattle.std.specs.declared.option.Option.{Option}
 use Rattle.numbers.proofs.Tests.{by_test, no_true, not-false}
 use Rattle.adjust.specs.declared.terms.Class.{Class}
 use Rattle.adjust.specs.declared.terms.Class.TheVariants.{Third, Fourth, Spur}
@@ -30,8 +31,8 @@ stage_lines Open = 1
 stage_lines Closed = 2
 
 abbrev pub waiting_lines : Option Awaited → ℕ
-waiting_lines none = 0
-waiting_lines (some w) = 1 + length w.outward
+waiting_lines None = 0
+waiting_lines (Some w) = 1 + length w.outward
 
 abbrev pub least : Reading → ℕ
 least r = stage_lines r.stage + 3 * length r.sections + waiting_lines r.waiting + length r.present
@@ -44,10 +45,10 @@ two_at_least (suc (suc n)) e = omega arith
 
 ended : (r : Reading) (class : Class) (waiting : Option Awaited) (n : ℤ) → 2 ≤ length r.present
     → least (run_ended (recast r class waiting) n) ≤ least (recast r class waiting) + 1
-ended r Third none n h = omega arith
-ended r Spur none n h = omega arith
-ended r Fourth none n h = omega (arith, length-append r.sections (record { number = n; outward = r.present; back = none } ∷ []))
-ended r class (some w) n h = omega (arith, length-append r.sections (record { number = w.number; outward = w.outward; back = some r.present } ∷ []))
+ended r Third None n h = omega arith
+ended r Spur None n h = omega arith
+ended r Fourth None n h = omega (arith, length-append r.sections (record { number = n; outward = r.present; back = None } ∷ []))
+ended r class (Some w) n h = omega (arith, length-append r.sections (record { number = w.number; outward = w.outward; back = Some r.present } ∷ []))
 
 open_lines : (s : Stage) → is_open s ≡ true → stage_lines s ≡ 1
 open_lines Fresh e = no_true e

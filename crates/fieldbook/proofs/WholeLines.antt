@@ -1,25 +1,28 @@
 -- Every line of a report has 84 bytes: no number is too large for its field.
-use mathlib.Core.Path.{◌≡◌, refl, sym, subst}
+use mathlib.Core.Path.{◌≡◌, refl, sym, ap, subst}
 use mathlib.Core.Bool.{Bool, true, false, cond}
 use mathlib.Core.List.{List, [], ◌∷◌, ◌++◌, map, map-append}
-use Prim.Native.Nat.{ℕ, suc, ◌+◌, ◌*◌, ◌≤◌}
+use Prim.Native.Nat.{ℕ, suc, ◌+◌, ◌≤◌}
 use native.Mathlib.Omega.{arith}
 use borrow.Author.Tests.{eq-eqb, leb-true}
 use lib.Dec.{leb, eqb}
-use lib.ListN.{length, take, drop, length-map}
+use lib.ListN.{length, length-map}
 use lib.IntN.{pos}
 use Rattle.numbers.proofs.Tables.{first_each}
 use Rattle.numbers.proofs.Tests.{by_test, is_true}
 use Rattle.numbers.proofs.All.{All, all_head, all_tail, all_cons, all_append}
 use Rattle.ledger.proofs.Kept.{calls_kept}
 use Rattle.adjust.specs.declared.Point.{Point}
-use Rattle.records.specs.declared.Tag.{Tag}
-use Rattle.records.specs.declared.Kind.{Kind}
-use Rattle.records.specs.declared.Kind.TheVariants.{Record, Refused}
-use Rattle.columns.specs.declared.parser.TextLine.{TextLine}
+use Rattle.std.specs.Prelude.{Ok, Err}
+use Rattle.std.specs.declared.result.Result.{Result}
+use Rattle.numbers.specs.Tables.{first_of}
+use Rattle.records.specs.declared.Record.{Record}
+use Rattle.records.specs.declared.Refusal.{Refusal as Refused}
+use Rattle.records.specs.Refusals.{number_of}
 use Rattle.columns.specs.Decimals.{same}
-use Rattle.columns.specs.Lines.{line_end, heading, title}
-use Rattle.columns.specs.Records.{letters, tags, tag_among, field_count, all_numbers, numbers_in, refused_line, record_line, numbers_line, record_in, line_of_kind, line_in}
+use Rattle.columns.specs.Lines.{heading, title}
+use Rattle.columns.specs.Records.{line_in, shape_tests}
+use Rattle.columns.proofs.Records.{parses}
 use Rattle.columns.specs.Texts.{lines}
 use Rattle.columns.proofs.Lines.{length_line, length_title}
 use Rattle.rules.specs.LineState.{is_closed}
@@ -38,39 +41,16 @@ use Rattle.fieldbook.proofs.Reports.{closed_stage, few_lines}
 
 -- ---- refusal numbers have two digits at most
 
--- a line is refused with 1 or 2
-abbrev SmallKind : Kind → Type 0
-SmallKind (Record t) = Unit {0}
-SmallKind (Refused n) = n ≤ 99
-
-abbrev Small : TextLine → Type 0
-Small l = SmallKind l.kind
-
-no_tag : (ts : List Tag) (w : List ℕ) → SmallKind (tag_among ts w)
-unfolding tag_among
-no_tag [] w = omega arith
-no_tag (t ∷ ts) w = by_test (same w (letters t)) (λ b. SmallKind (cond b (Record t) (tag_among ts w))) (λ b. tt) (λ b. no_tag ts w)
-
-numbers_small : (t : Tag) (n : ℕ) (l : List ℕ) → Small (numbers_line t n l)
-unfolding numbers_line
-numbers_small t n l = by_test (all_numbers n l) (λ b. Small (cond b (record_line t (numbers_in n l)) (refused_line 2))) (λ b. tt) (λ b. omega arith)
-
-line_small : (l : List ℕ) → Small (line_in l)
-unfolding line_in record_in
-line_small l = go (tag_among tags (take 3 l)) (no_tag tags (take 3 l))
-  where
-    go : (k : Kind) → SmallKind k → Small (line_of_kind k l)
-    go (Record t) h =
-        by_test (same (drop (3 + 8 * field_count t) l) (line_end (3 + 8 * field_count t))) (λ b. Small (cond b (numbers_line t (field_count t) (drop 3 l)) (refused_line 1)))
-        (λ b. numbers_small t (field_count t) (drop 3 l)) (λ b. omega arith)
-    go (Refused n) h = h
-
 refusal_small : (r : Reading) (l : List ℕ) → entry_refusal r (line_entry l) ≤ 99
-refusal_small r l = go (line_in l).kind (line_small l)
+refusal_small r l = go (line_in l) refl
   where
-    go : (k : Kind) → SmallKind k → entry_refusal r (entry_of k (line_in l).values) ≤ 99
-    go (Record t) h = let c : Call = call_of t (line_in l).values in leb-true (refusal r c) 99 (first_each (λ n. leb n 99) (tests (plain_state r) c) (tables (plain_state r) c).two_digits refl)
-    go (Refused n) h = h
+    -- a line that is no record is refused with 1 or 2
+    shapeless : number_of (line_in l) ≤ 99
+    shapeless = omega (arith, (parses l refl).1.0, leb-true (first_of (shape_tests l)) 99 (first_each (λ n. leb n 99) (shape_tests l) refl refl))
+
+    go : (x : Result Record Refused) → line_in l ≡ x → entry_refusal r (entry_of x) ≤ 99
+    go (Ok x) e = let c : Call = call_of x.tag x.values in leb-true (refusal r c) 99 (first_each (λ n. leb n 99) (tests (plain_state r) c) (tables (plain_state r) c).two_digits refl)
+    go (Err x) e = omega (arith, shapeless, ap number_of e)
 
 -- ---- whole lines
 

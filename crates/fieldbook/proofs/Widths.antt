@@ -22,7 +22,7 @@ use Rattle.adjust.specs.Claims.{Near, next_section}
 use Rattle.adjust.specs.declared.terms.Terms.{Terms}
 use Rattle.adjust.specs.Sizes.{most_l}
 use Rattle.adjust.specs.declared.Frame.{Frame}
-use Rattle.adjust.specs.Line.{quarters, wholes, line_frame, Closing, closing, closure, line_length, point_after, points_after, section_points, printed_height, accidental_sum}
+use Rattle.adjust.specs.Line.{quarters, wholes, line_frame, Closing, closing, closure, line_length, point_after, points_after, section_points, printed_height, verdict_number}
 use Rattle.adjust.proofs.Lines.{line_near}
 use Rattle.adjust.proofs.Lists.{Fit, fit_head, fit_tail, fitted_legs}
 use Rattle.adjust.proofs.Sized.{long, length_size, in_range_lem}
@@ -67,15 +67,15 @@ shown_long t h =
     by_test (lt_z (pos 99999999) t) (λ b. Long (cond b (pos 99999999) t))
     (λ b. (omega ints, omega ints)) (λ b. (h, test_ge {a = pos 99999999} {b = t} (is_false b)))
 
-closed_fits_lem : (s : Summary) → Small s.closure → Long s.distance → s.count ≤ 64 → pos 0 ≤ℤ s.accidental → s.verdict ≤ 2 → closed_fits s ≡ true
+closed_fits_lem : (s : Summary) → Small s.closure → Long s.distance → s.count ≤ 64 → pos 0 ≤ℤ s.accidental → closed_fits s ≡ true
 unfolding line_fits columns_of all_fit width_of
-closed_fits_lem s w l n t v =
+closed_fits_lem s w l n t =
     rw (
       small_fits s.closure w,
       long_fits s.distance l,
       small_fits (pos s.count) (omega arith),
       long_fits (shown_t s.accidental) (shown_long s.accidental t),
-      small_fits (pos s.verdict) (omega arith),
+      small_fits (pos (verdict_number s.verdict)) (omega (arith, verdict_small s.verdict)),
     )
 
 point_fits_lem : (p : Point) → Small p.number → Long p.distance → Small p.correction → nat_abs p.height ≤ 99999999 → point_fits p ≡ true
@@ -150,7 +150,7 @@ module _ (v : LineState) (i : Kept v) (shut : v.line.stage ≡ Closed) (small : 
   summary_fits =
       let terms : Terms = terms_of v.line.opening.class in
       closed_fits_lem gave.summary (omega (arith, small, abs_mul (pos 1) framed.closure)) (omega (ints, some), omega (ints, short)) i.few
-      (sum_low terms 1 (omega arith) ss fit) (verdict_small terms (length ss) (accidental_sum terms 1 ss))
+      (sum_low terms 1 (omega arith) ss fit)
 
   all_fit_lem : All point_fits gave.points
   all_fit_lem =

@@ -1,53 +1,54 @@
--- Lines written one after the other into a buffer: a line that fits, and what a loop has left to write.
+-- Lines written one after the other into a buffer: a line that fits, a piece written to the rest of a buffer, and what a loop has left to write.
 use mathlib.Core.Path.{◌≡◌, refl, sym, ap, subst, ◌∙◌}
 use mathlib.Core.Bool.{Bool, true, false, cond}
-use mathlib.Core.List.{List, [], ◌∷◌, ◌++◌, map, append_assoc, append-nil}
-use Prim.Native.Nat.{ℕ, suc, ◌+◌, ◌*◌, ◌≤◌, ◌<◌}
+use mathlib.Core.List.{List, [], ◌∷◌, ◌++◌, map, append-nil}
+use Prim.Native.Nat.{ℕ, suc, ◌+◌, ◌-◌, ◌*◌, ◌≤◌, ◌<◌}
 use native.Mathlib.Numerals.{add-one}
 use native.Mathlib.Omega.{arith}
-use borrow.Author.Tests.{eq-eqb, ne_eqb}
+use borrow.Author.Tests.{ne_eqb}
 use lib.Dec.{eqb}
 use lib.IntN.{ℤ, pos}
-use lib.ListN.{length, get_or, take, drop, length-append, length-take, drop_of_length-le}
-use lib.Seq.{get_or-take}
-use Rattle.numbers.specs.Numbers.{put_at}
+use lib.ListN.{length, get_or, take, drop, length-append, length-take, length-drop, drop_of_length-le}
+use borrow.Rule.Slice.PartMut.{put_mid}
+use Rattle.std.specs.Prelude.{Err}
+use Rattle.numbers.specs.Numbers.{over, put_at}
 use Rattle.numbers.proofs.Tests.{by_test}
 use Rattle.numbers.proofs.All.{all_head, all_tail}
-use Rattle.numbers.proofs.Arrays.{length_put_at, put_after, put_all, drop_next}
+use Rattle.numbers.proofs.Arrays.{length_put_at, put_after, put_all, put_none, drop_next}
+use Rattle.records.specs.declared.Refusal.{Refusal as Refused}
+use Rattle.records.proofs.Numbered.{not_zero}
 use Rattle.adjust.specs.declared.Point.{Point}
-use Rattle.adjust.specs.declared.Summary.{Summary}
+use Rattle.adjust.specs.declared.LineFigures.{LineFigures}
 use Rattle.adjust.specs.Frames.{no_point}
 use Rattle.columns.specs.Buffers.{placed}
 use Rattle.columns.specs.Lines.{width_of, all_fit, columns_of, line_fits, tag_line, is_wide, title}
 use Rattle.columns.specs.Texts.{joined}
+use Rattle.columns.proofs.Lists.{part_rest}
 use Rattle.columns.proofs.Put.{placed_room}
 use Rattle.columns.proofs.Lines.{length_line, length_title}
 use Rattle.columns.proofs.Texts.{joined_append}
 use Rattle.rules.specs.declared.Book.{Book}
-use Rattle.book.specs.declared.CloseAnswer.{CloseAnswer}
-use Rattle.book.specs.declared.CloseAnswer.TheVariants.{NotClosed}
-use Rattle.book.specs.Calls.{closing_in, figures_of}
+use Rattle.book.specs.Calls.{closing_in, figures_refusal, Tells}
 use Rattle.textbook.specs.declared.text.State.{State}
 use Rattle.textbook.specs.Text.{Refusal, refusals_from}
-use Rattle.fieldbook.specs.Report.{ref_line, closed_numbers, closed_line, point_numbers, point_line, opn_line, closing_lines}
+use Rattle.fieldbook.specs.Report.{ref_line, closed_numbers, closed_line, point_numbers, point_line, opn_line}
 use Rattle.fieldbook.specs.Fits.{point_fits}
-use Rattle.fieldbook.specs.code.Printed.{refusal_bytes, refusal_lines, answer_lines, book_lines, state_lines, points_fit, ClosingFits}
+use Rattle.fieldbook.specs.code.Printed.{refusal_bytes, refusal_lines, figures_lines, told_of, book_lines, below_title, state_lines, points_fit, ClosingFits}
 use Rattle.fieldbook.proofs.Bytes.{tag_short}
 use Rattle.fieldbook.proofs.Widths.{small_fits}
 
 -- ---- a line
 
--- a line that fits, where there is room for it
-pub line_put : (d : List ℕ) (at : ℕ) (tag : List ℕ) (zs : List ℤ) (wide : Bool) → line_fits (length tag) zs wide ≡ true → at + 84 ≤ length d
-    → placed d at (tag_line tag zs wide) ≡ put_at d at (tag_line tag zs wide)
-line_put d at tag zs wide e h = placed_room d at (tag_line tag zs wide) (omega (arith, length_line tag zs wide e))
+-- a line that fits, at the beginning of a buffer with room for it
+pub line_put : (d tag : List ℕ) (zs : List ℤ) (wide : Bool) → line_fits (length tag) zs wide ≡ true → 84 ≤ length d → placed d 0 (tag_line tag zs wide) ≡ put_at d 0 (tag_line tag zs wide)
+line_put d tag zs wide e h = placed_room d 0 (tag_line tag zs wide) (omega (arith, length_line tag zs wide e))
 
--- where line k was taken, and where it was refused
-pub refusal_none : (k n : ℕ) → n ≡ 0 → refusal_bytes k n ≡ []
-refusal_none k n e = ap (λ (b : Bool). cond b [] (ref_line (record { line = k; number = n }))) (eq-eqb n 0 e)
+pub line_long : (tag : List ℕ) (zs : List ℤ) (wide : Bool) → line_fits (length tag) zs wide ≡ true → 84 ≡ length (tag_line tag zs wide)
+line_long tag zs wide e = sym (length_line tag zs wide e)
 
-pub refusal_some : (k n : ℕ) → (n ≡ 0 → ⊥) → refusal_bytes k n ≡ ref_line (record { line = k; number = n })
-refusal_some k n e = ap (λ (b : Bool). cond b [] (ref_line (record { line = k; number = n }))) (ne_eqb n 0 e)
+-- nothing is written
+pub none_put : (d : List ℕ) (at : ℕ) → d ≡ put_at d at []
+none_put d at = sym (put_none d at)
 
 pub refusal_short : (k n : ℕ) → length (refusal_bytes k n) ≤ 84
 refusal_short k n =
@@ -62,18 +63,40 @@ pub open_fits : (n : ℕ) → n ≤ 64 → line_fits 3 (pos n ∷ []) false ≡ 
 unfolding line_fits columns_of all_fit width_of
 open_fits n h = rw (small_fits (pos n) (omega arith))
 
+pub open_long : (n : ℕ) → n ≤ 64 → length (opn_line n) ≡ 84
+open_long n h = length_line (79 ∷ 80 ∷ 78 ∷ []) (pos n ∷ []) false (open_fits n h)
+
+-- ---- a piece, and the next in the rest of the buffer
+
+-- t written to `d[at..]`
+pub part_put : (d e t : List ℕ) (at : ℕ) → e ≡ put_at (take (length d - at) (drop at d)) 0 t → put_mid at (length d - at) d e ≡ put_at d at t
+unfolding put_at
+part_put d e t at p =
+    let none : drop (length d - at) (drop at d) ≡ [] = drop_of_length-le (drop at d) (omega (arith, length-drop at d)) in
+    (λ i. take at d ++ (p i ++ none i))
+    ∙ ap (λ (x : List ℕ). take at d ++ (over t x ++ [])) (part_rest d at)
+    ∙ ap (λ (x : List ℕ). take at d ++ x) (append-nil (over t (drop at d)))
+
+-- s written to d, and t to the rest, are `whole`
+pub put_both : (d s t whole : List ℕ) → whole ≡ s ++ t → {d₁ e : List ℕ} {at : ℕ} → d₁ ≡ put_at d 0 s → at ≡ length s
+    → e ≡ put_at (take (length d₁ - at) (drop at d₁)) 0 t → put_mid at (length d₁ - at) d₁ e ≡ put_at d 0 whole
+put_both d s t whole w {d₁} {e} {at} p q r = part_put d₁ e t at r ∙ (λ i. put_at (p i) (at_end i) t) ∙ put_after d 0 s t (omega arith) ∙ ap (put_at d 0) (sym w)
+  where
+    at_end : at ≡ 0 + length s
+    at_end = omega (arith, q)
+
 -- ---- what is left to write
 
--- `rest` at index `at` of d is what is left to write of `whole` at index `from` of the buffer d₀
-pub record Left (whole : List ℕ) (d₀ : List ℕ) (from : ℕ) (rest d : List ℕ) (at : ℕ) : Type 0 where
-  pub ends : at + length rest ≡ from + length whole
+-- `rest` from index `at` of d on is what is left to write of `whole` at the beginning of the buffer d₀
+pub record Left (whole d₀ rest d : List ℕ) (at : ℕ) : Type 0 where
+  pub ends : at + length rest ≡ length whole
   pub same : length d ≡ length d₀
-  pub put : put_at d at rest ≡ put_at d₀ from whole
+  pub put : put_at d at rest ≡ put_at d₀ 0 whole
 
-module _ {whole d₀ : List ℕ} {from : ℕ} {rest d : List ℕ} {at : ℕ} (l : Left whole d₀ from rest d at) where
+module _ {whole d₀ rest d : List ℕ} {at : ℕ} (l : Left whole d₀ rest d at) where
   -- after one more piece
   pub left_turn : (piece more : List ℕ) → rest ≡ piece ++ more → at + length piece ≤ length d
-      → {d₁ : List ℕ} {next : ℕ} → d₁ ≡ put_at d at piece → next ≡ at + length piece → Left whole d₀ from more d₁ next
+      → {d₁ : List ℕ} {next : ℕ} → d₁ ≡ put_at d at piece → next ≡ at + length piece → Left whole d₀ more d₁ next
   left_turn piece more e h p q =
       record {
         ends = omega (arith, l.ends, ap length e, length-append piece more, q);
@@ -81,7 +104,7 @@ module _ {whole d₀ : List ℕ} {from : ℕ} {rest d : List ℕ} {at : ℕ} (l 
         put = (λ i. put_at (p i) (q i) more) ∙ put_after d at piece more (omega arith) ∙ ap (put_at d at) (sym e) ∙ l.put;
       }
 
-  pub left_none : rest ≡ [] → (at ≡ from + length whole) × (d ≡ put_at d₀ from whole)
+  pub left_none : rest ≡ [] → (at ≡ length whole) × (d ≡ put_at d₀ 0 whole)
   left_none e = (omega (arith, l.ends, ap length e), put_all d at e l.put)
 
 -- ---- refusals
@@ -114,31 +137,29 @@ module _ (ns : List ℕ) where
 
 -- ---- points
 
-module _ (ps : List Point) (n : ℕ) where
+module _ (ps : List Point) (k : ℕ) where
   -- the points from k on
-  abbrev pub points_left : ℕ → List Point
-  points_left k = drop k (take n ps)
+  abbrev pub points_left : List ℕ
+  points_left = joined (map point_line (drop k ps))
 
-  pub points_turn : (k : ℕ) → k < n → k < length (take n ps) → points_left k ≡ get_or ps k no_point ∷ points_left (k + 1)
-  points_turn k h g = drop_next (take n ps) k no_point g ∙ ap (λ (p : Point). p ∷ drop (k + 1) (take n ps)) (get_or-take n ps k no_point h)
-
-  pub no_point_left : (k : ℕ) → n ≤ k → joined (map point_line (points_left k)) ≡ []
+  pub no_point_left : length ps ≤ k → points_left ≡ []
   unfolding joined
-  no_point_left k h = ap (λ (x : List Point). joined (map point_line x)) (drop_of_length-le (take n ps) {i = k} (omega (arith, length-take n ps)))
+  no_point_left h = ap (λ (x : List Point). joined (map point_line x)) (drop_of_length-le ps {i = k} h)
 
-module _ {p : Point} {ps qs : List Point} (e : qs ≡ p ∷ ps) (f : points_fit qs) where
-  both : points_fit (p ∷ ps)
-  both = subst points_fit e f
+  module _ (h : k < length ps) where
+    pub points_turn : points_left ≡ point_line (get_or ps k no_point) ++ joined (map point_line (drop (k + 1) ps))
+    unfolding joined
+    points_turn = ap (λ (x : List Point). joined (map point_line x)) (drop_next ps k no_point h)
 
-  pub first_fits : point_fits p ≡ true
-  first_fits = all_head point_fits p ps both
+    module _ (f : points_fit (drop k ps)) where
+      both : points_fit (get_or ps k no_point ∷ drop (k + 1) ps)
+      both = subst points_fit (drop_next ps k no_point h) f
 
-  pub others_fit : points_fit ps
-  others_fit = all_tail point_fits p ps both
+      pub first_fits : point_fits (get_or ps k no_point) ≡ true
+      first_fits = all_head point_fits (get_or ps k no_point) (drop (k + 1) ps) both
 
-  pub point_piece : joined (map point_line qs) ≡ point_line p ++ joined (map point_line ps)
-  unfolding joined
-  point_piece = ap (λ (x : List Point). joined (map point_line x)) e
+      pub others_fit : points_fit (drop (k + 1) ps)
+      others_fit = all_tail point_fits (get_or ps k no_point) (drop (k + 1) ps) both
 
 pub point_long : (p : Point) → point_fits p ≡ true → length (point_line p) ≡ 84
 point_long p e = length_line (80 ∷ 78 ∷ 84 ∷ []) (point_numbers p) (is_wide p.height) e
@@ -151,57 +172,54 @@ points_long (p ∷ ps) f =
 
 -- ---- what closing the line gave
 
-module _ (s : Summary) (ps : List Point) (f : ClosingFits s ps) where
-  abbrev given : List Point
-  given = (closing_in s ps).points
-
-  closed_long : length (closed_line s) ≡ 84
-  closed_long = length_line (67 ∷ 76 ∷ 79 ∷ []) (closed_numbers s) false f.summary
-
-  pub closing_long : length (joined (closing_lines (closing_in s ps))) ≡ 84 + 84 * (s.count + 1)
+module _ (f : LineFigures) where
+  pub closing_bytes : joined (figures_lines f) ≡ closed_line f.summary ++ joined (map point_line (closing_in f).points)
   unfolding joined
-  closing_long =
-      omega (arith, f.few, f.places, closed_long, length-append (closed_line s) (joined (map point_line given)), points_long given f.points, length-take (s.count + 1) ps)
+  closing_bytes = refl
 
-  pub closing_put : (d : List ℕ) (at : ℕ) → at ≤ length d
-      → put_at (put_at d at (closed_line s)) (at + 84) (joined (map point_line given)) ≡ put_at d at (joined (closing_lines (closing_in s ps)))
-  unfolding joined
-  closing_put d at h =
-      ap (λ (k : ℕ). put_at (put_at d at (closed_line s)) (at + k) (joined (map point_line given))) (sym closed_long)
-      ∙ put_after d at (closed_line s) (joined (map point_line given)) h
+  pub closing_long : length (joined (figures_lines f)) ≡ length (closed_line f.summary) + length (joined (map point_line (closing_in f).points))
+  closing_long = ap length closing_bytes ∙ length-append (closed_line f.summary) (joined (map point_line (closing_in f).points))
 
--- ---- where the line stands
+  pub closed_long : ClosingFits f → length (closed_line f.summary) ≡ 84
+  closed_long fits = length_line (67 ∷ 76 ∷ 79 ∷ []) (closed_numbers f.summary) false fits.summary
 
-module _ (b : Book) where
-  pub book_open : (n : ℕ) → (figures_of b).answer ≡ NotClosed n → joined (book_lines b) ≡ opn_line b.sections.count
-  unfolding joined
-  book_open n e = ap (λ (a : CloseAnswer). joined (answer_lines b (figures_of b).points a)) e ∙ append-nil (opn_line b.sections.count)
+  pub given_long : ClosingFits f → length (joined (map point_line (closing_in f).points)) ≡ 84 * length (closing_in f).points
+  given_long fits = points_long (closing_in f).points fits.points
 
-pub open_long : (n : ℕ) → n ≤ 64 → length (opn_line n) ≡ 84
-open_long n h = length_line (79 ∷ 80 ∷ 78 ∷ []) (pos n ∷ []) false (open_fits n h)
+-- where the line is not closed
+pub book_open : (b : Book) (e : Refused) → Tells b (Err e) → joined (book_lines b) ≡ opn_line b.sections.count
+unfolding joined
+book_open b e told =
+    ap (λ (t : Bool). joined (cond t (figures_lines (told_of b)) (opn_line b.sections.count ∷ []))) (ne_eqb (figures_refusal b) 0 (λ z. not_zero e (told.number ∙ z)))
+    ∙ append-nil (opn_line b.sections.count)
 
 -- ---- the report
 
 module _ (s : State) where
-  abbrev refusals : List ℕ
-  refusals = joined (refusal_lines 0 s.refusals)
+  pub below_bytes : joined (below_title s) ≡ joined (refusal_lines 0 s.refusals) ++ joined (book_lines s.book)
+  below_bytes = joined_append (refusal_lines 0 s.refusals) (book_lines s.book)
 
-  abbrev stands : List ℕ
-  stands = joined (book_lines s.book)
+  pub below_long : length (joined (below_title s)) ≡ length (joined (refusal_lines 0 s.refusals)) + length (joined (book_lines s.book))
+  below_long = ap length below_bytes ∙ length-append (joined (refusal_lines 0 s.refusals)) (joined (book_lines s.book))
 
-  pub state_bytes : joined (state_lines s) ≡ title ++ (refusals ++ stands)
+  pub state_bytes : joined (state_lines s) ≡ title ++ joined (below_title s)
   unfolding state_lines joined
-  state_bytes = ap (λ (x : List ℕ). title ++ x) (joined_append (refusal_lines 0 s.refusals) (book_lines s.book))
+  state_bytes = refl
 
-  pub state_long : length (joined (state_lines s)) ≡ 84 + length refusals + length stands
-  state_long =
-      omega (arith, ap length state_bytes, length-append title (refusals ++ stands), length-append refusals stands, length_title)
+  pub state_long : length (joined (state_lines s)) ≡ 84 + length (joined (below_title s))
+  state_long = omega (arith, ap length state_bytes, length-append title (joined (below_title s)), length_title)
 
-  pub state_put : (d : List ℕ) → put_at (put_at (put_at d 0 title) 84 refusals) (84 + length refusals) stands ≡ put_at d 0 (joined (state_lines s))
-  state_put d =
-      let first : 84 ≡ 0 + length title = omega (arith, length_title) in
-      let second : 84 + length refusals ≡ 0 + length (title ++ refusals) = omega (arith, length-append title refusals, length_title) in
-      (λ i. put_at (put_at (put_at d 0 title) (first i) refusals) (second i) stands)
-      ∙ ap (λ (x : List ℕ). put_at x (0 + length (title ++ refusals)) stands) (put_after d 0 title refusals (omega arith))
-      ∙ put_after d 0 (title ++ refusals) stands (omega arith)
-      ∙ ap (put_at d 0) (append_assoc title refusals stands ∙ sym state_bytes)
+pub title_put : (d : List ℕ) → 84 ≤ length d → placed d 0 title ≡ put_at d 0 title
+title_put d h = placed_room d 0 title (omega (arith, length_title))
+
+-- ---- what the tactics of each function cite
+
+pub ruleset put_whole = (line_put, line_long)
+
+pub ruleset put_refusal = (refusal_fits, none_put)
+
+pub ruleset put_closing = (put_both, closing_bytes, closing_long, closed_long, given_long, length-take, length-drop)
+
+pub ruleset put_below = (put_both, below_bytes, below_long, length-take, length-drop)
+
+pub ruleset put_state = (state_long, length-take, length-drop)

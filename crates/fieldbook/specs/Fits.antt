@@ -1,5 +1,6 @@
 -- That what is printed fits, and nothing is left out for want of room.
 use Rattle.std.specs.Prelude.{◌≡◌, Bool, true, false, not, ℕ, ◌≤◌, List, eqb, length}
+use Rattle.std.specs.declared.option.Option.{Option}
 use Rattle.numbers.specs.Numbers.{any_of}
 use Rattle.adjust.specs.declared.Point.{Point}
 use Rattle.adjust.specs.declared.Summary.{Summary}
@@ -17,7 +18,7 @@ ReportFits = (text : List ℕ) → length text ≤ most_text → length (report 
 
 -- and so has the program's own, whatever was read
 abbrev pub PrintedFits : Type 0
-PrintedFits = (input : List ℕ) (n : ℕ) (failed : Bool) → length (printed_of input n failed) ≤ 65536
+PrintedFits = (input : List ℕ) (read : Option ℕ) → length (printed_of input read) ≤ 65536
 
 -- every line of a report is whole: its numbers fit their fields
 abbrev pub ReportWhole : Type 0

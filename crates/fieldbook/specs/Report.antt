@@ -1,18 +1,20 @@
 -- The report of a text, byte for byte, and what the call that writes it leaves in the lent buffer.
-use Rattle.std.specs.Prelude.{◌≡◌, Bool, false, cond, List, [], ◌∷◌, ◌++◌, map, ℕ, length, take, eqb, ltb, ℤ, pos}
+use Rattle.std.specs.Prelude.{◌≡◌, Bool, false, cond, Some, None, IfOk, List, [], ◌∷◌, ◌++◌, map, ℕ, length, take, eqb, ltb, ℤ, pos}
 use Rattle.std.specs.Int.Signed.{lt_z}
+use Rattle.std.specs.declared.option.Option.{Option}
+use Rattle.std.specs.declared.result.Result.{Result}
 use Rattle.numbers.specs.Numbers.{put_at}
 use Rattle.numbers.specs.Tables.{first_of}
+use Rattle.records.specs.declared.Refusal as Records
+use Rattle.records.specs.Refusals.{number_of}
 use Rattle.adjust.specs.declared.Point.{Point}
 use Rattle.adjust.specs.declared.Summary.{Summary}
-use Rattle.adjust.specs.Line.{Closing}
+use Rattle.adjust.specs.Line.{Closing, verdict_number}
 use Rattle.columns.specs.Decimals.{same}
 use Rattle.columns.specs.Lines.{tag_line, is_wide, heading, title}
 use Rattle.columns.specs.Texts.{lines, joined}
 use Rattle.rules.specs.LineState.{is_closed}
 use Rattle.ledger.specs.Plain.{Reading, fresh_reading, figures_of}
-use Rattle.fieldbook.specs.declared.Reduced.{Reduced}
-use Rattle.fieldbook.specs.declared.Reduced.TheVariants.{Written, Refused}
 use Rattle.textbook.specs.Text.{Refusal, too_long, line_refusals, refusals_from, reading_after}
 
 -- ---- its lines
@@ -27,7 +29,7 @@ shown_t t = cond (lt_z (pos 99999999) t) (pos 99999999) t
 
 -- W, L, n, T and the verdict
 abbrev pub closed_numbers : Summary → List ℤ
-closed_numbers s = s.closure ∷ s.distance ∷ pos s.count ∷ shown_t s.accidental ∷ pos s.verdict ∷ []
+closed_numbers s = s.closure ∷ s.distance ∷ pos s.count ∷ shown_t s.accidental ∷ pos (verdict_number s.verdict) ∷ []
 
 -- "CLO"
 abbrev pub closed_line : Summary → List ℕ
@@ -84,29 +86,14 @@ text_refusal text buffer = first_of (text_tests text buffer)
 unfoldable pub buffer_after : List ℕ → List ℕ → List ℕ
 buffer_after text buffer = cond (ltb 0 (text_refusal text buffer)) buffer (put_at buffer 0 (report text))
 
--- document 01's number of an answer
-abbrev pub reduced_number : Reduced → ℕ
-reduced_number (Written n) = 0
-reduced_number (Refused n) = n
+-- `written` after the call: the report's length, or as it was where the call is refused
+abbrev pub length_after : List ℕ → List ℕ → ℕ → ℕ
+length_after text buffer old = cond (eqb (text_refusal text buffer) 0) (length (report text)) old
 
--- the length of what was written, `old` where nothing was
-abbrev pub reduced_length : Reduced → ℕ → ℕ
-reduced_length (Written n) old = n
-reduced_length (Refused n) old = old
-
--- the answer with a number: the length where it is 0
-abbrev pub reduced_as : ℕ → ℕ → Reduced
-reduced_as n long = cond (eqb n 0) (Written long) (Refused n)
-
-unfoldable pub reduced_of : List ℕ → List ℕ → Reduced
-reduced_of text buffer = reduced_as (text_refusal text buffer) (length (report text))
-
--- r is that answer, and has, by `reduced_number` and `reduced_length`, document 01's number and the report's length
-abbrev pub Reduces : List ℕ → List ℕ → Reduced → Type 0
-Reduces text buffer r =
-    let n : ℕ = text_refusal text buffer in
-    (r ≡ reduced_of text buffer)
-    × ((reduced_number r ≡ n) × ((old : ℕ) → reduced_length r old ≡ cond (eqb n 0) (length (report text)) old))
+-- r has document 01's number, and where that is none the report's length
+pub record Reduces (text buffer : List ℕ) (r : Result ℕ Records.Refusal) : Type 0 where
+  pub number : number_of r ≡ text_refusal text buffer
+  pub written : IfOk r (λ n. n ≡ length (report text))
 
 -- ---- the program
 
@@ -114,6 +101,7 @@ Reduces text buffer r =
 abbrev pub printed_for : List ℕ → List ℕ
 printed_for text = cond (too_long text) (ref_line (record { line = 0; number = 9 })) (report text)
 
--- what is printed of an input: of the text that its first n bytes are; nothing where a read failed, since they may be a part of the text only
-abbrev pub printed_of : List ℕ → ℕ → Bool → List ℕ
-printed_of input n failed = cond failed [] (printed_for (take n input))
+-- what is printed of an input of which so many bytes were read: of the text that they are; nothing where a read failed, since they may be a part of the text only
+abbrev pub printed_of : List ℕ → Option ℕ → List ℕ
+printed_of input None = []
+printed_of input (Some n) = printed_for (take n input)

@@ -1,53 +1,63 @@
-// The report, written into a lent buffer.
-ghost use Rattle.std.specs.Prelude.{◌≡◌, true, map, ◌+◌, ◌*◌, ◌≤◌, length, take};
+// The report, written into a lent buffer: each piece at its beginning, and the next into the rest.
+ghost use Rattle.std.specs.Prelude.{◌≡◌, true, map, ◌+◌, ◌*◌, ◌≤◌, length};
 ghost use Rattle.numbers.specs.Numbers.{put_at};
+ghost use Rattle.columns.specs.Lines.{line_fits, tag_line};
 ghost use Rattle.columns.specs.Texts.{joined};
-ghost use Rattle.fieldbook.specs.Report.{shown_t, closed_line, point_line, opn_line, closing_lines};
+ghost use Rattle.fieldbook.specs.Report.{shown_t, closed_line, point_line, opn_line};
 ghost use Rattle.fieldbook.specs.Fits.{closed_fits, point_fits};
-ghost use Rattle.book.specs.Calls.{closing_in};
-ghost use Rattle.fieldbook.specs.code.Printed.{refusal_bytes, refusal_lines, book_lines, state_lines, points_fit, ClosingFits, Printable};
+ghost use Rattle.fieldbook.specs.code.Printed.{refusal_bytes, refusal_lines, figures_lines, book_lines, below_title, state_lines, points_fit, ClosingFits, Printable};
 
-use adjust::{Point, Summary};
-use book::CloseAnswer;
+use adjust::{LineFigures, Point, Summary};
 use book::calls::figures_of;
 use columns::writer::{is_wide, put_line, put_title};
 use rules::Book;
 use textbook::text::State;
 
-// The refusal of a line, where there is one: the index after it.
-pub(crate) fn put_refusal(buf: &mut [u8], at: usize, line: usize, number: u8) -> usize
-    requires { (at + 84 ≤ length buf.old) × (line ≤ 777) }
-    ensures value { result ≡ at + length (refusal_bytes line number) }
-    ensures buf_after { buf.new ≡ put_at buf.old at (refusal_bytes line number) }
+// A line whose numbers fit: its length.
+#[tactic(auto, using(crate::proofs::Written::put_whole))]
+fn put_whole(buf: &mut [u8], tag: &[u8], numbers: &[i64], wide: bool) -> usize
+    requires fit { line_fits (length tag.now) numbers.now wide ≡ true }
+    requires room { 84 ≤ length buf.old }
+    ensures value { result ≡ length (tag_line tag.now numbers.now wide) }
+    ensures buf_after { buf.new ≡ put_at buf.old 0 (tag_line tag.now numbers.now wide) }
+{
+    put_line(buf, 0, tag, numbers, wide);
+    84
+}
+
+// The refusal of a line, where there is one: its length.
+#[tactic(auto, using(crate::proofs::Written::put_refusal))]
+pub(crate) fn put_refusal(buf: &mut [u8], line: usize, number: u8) -> usize
+    requires { (84 ≤ length buf.old) × (line ≤ 777) }
+    ensures value { result ≡ length (refusal_bytes line number) }
+    ensures buf_after { buf.new ≡ put_at buf.old 0 (refusal_bytes line number) }
 {
     if number == 0 {
-        return at;
+        return 0;
     }
-    let numbers = [line as i64, number as i64];
-    put_line(buf, at, b"REF", &numbers, false);
-    at + 84
+    put_whole(buf, b"REF", &[line as i64, number as i64], false)
 }
 
-// The refusals, each number in its line's place: the index after them.
-fn put_refusals(buf: &mut [u8], at: usize, numbers: [u8; 778]) -> usize
-    requires { at + 65352 ≤ length buf.old }
-    ensures value { result ≡ at + length (joined (refusal_lines 0 numbers)) }
-    ensures buf_after { buf.new ≡ put_at buf.old at (joined (refusal_lines 0 numbers)) }
+// The refusals, each number in its line's place: their length.
+fn put_refusals(buf: &mut [u8], numbers: &[u8; 778]) -> usize
+    requires { 65352 ≤ length buf.old }
+    ensures value { result ≡ length (joined (refusal_lines 0 numbers.now)) }
+    ensures buf_after { buf.new ≡ put_at buf.old 0 (joined (refusal_lines 0 numbers.now)) }
 {
-    let mut next = at;
-    for k in 0..778 {
-        let number = numbers[k];
-        next = put_refusal(buf, next, k, number);
+    let mut at = 0;
+    for (line, number) in numbers.iter().enumerate() {
+        at += put_refusal(&mut buf[at..], line, *number);
     }
-    next
+    at
 }
 
-fn put_open(buf: &mut [u8], at: usize, sections: usize)
-    requires { (at + 84 ≤ length buf.old) × (sections ≤ 64) }
-    ensures { buf.new ≡ put_at buf.old at (opn_line sections) }
+#[tactic(auto, using(crate::proofs::Written::open_fits))]
+fn put_open(buf: &mut [u8], sections: usize) -> usize
+    requires { (84 ≤ length buf.old) × (sections ≤ 64) }
+    ensures value { result ≡ length (opn_line sections) }
+    ensures buf_after { buf.new ≡ put_at buf.old 0 (opn_line sections) }
 {
-    let numbers = [sections as i64];
-    put_line(buf, at, b"OPN", &numbers, false);
+    put_whole(buf, b"OPN", &[sections as i64], false)
 }
 
 // T as it is printed: one that has more than eight digits as 99,999,999.
@@ -57,75 +67,81 @@ fn shown_t(t: i64) -> i64
     if 99999999 < t { 99999999 } else { t }
 }
 
-fn put_closed(buf: &mut [u8], at: usize, s: Summary)
-    requires { (at + 84 ≤ length buf.old) × ((s.count ≤ 64) × (closed_fits s ≡ true)) }
-    ensures { buf.new ≡ put_at buf.old at (closed_line s) }
+fn put_closed(buf: &mut [u8], s: &Summary) -> usize
+    requires { (84 ≤ length buf.old) × ((s.now.count ≤ 64) × (closed_fits s.now ≡ true)) }
+    ensures value { result ≡ length (closed_line s.now) }
+    ensures buf_after { buf.new ≡ put_at buf.old 0 (closed_line s.now) }
 {
     let count = s.count as i64;
-    let verdict = s.verdict as i64;
+    let verdict = s.verdict.number() as i64;
     let numbers = [s.closure, s.distance, count, shown_t(s.accidental), verdict];
-    put_line(buf, at, b"CLO", &numbers, false);
+    put_whole(buf, b"CLO", &numbers, false)
 }
 
-fn put_point(buf: &mut [u8], at: usize, p: Point)
-    requires { (at + 84 ≤ length buf.old) × (point_fits p ≡ true) }
-    ensures { buf.new ≡ put_at buf.old at (point_line p) }
+fn put_point(buf: &mut [u8], p: &Point) -> usize
+    requires { (84 ≤ length buf.old) × (point_fits p.now ≡ true) }
+    ensures value { result ≡ length (point_line p.now) }
+    ensures buf_after { buf.new ≡ put_at buf.old 0 (point_line p.now) }
 {
     let numbers = [p.number, p.distance, p.correction, p.height];
-    put_line(buf, at, b"PNT", &numbers, is_wide(p.height));
+    put_whole(buf, b"PNT", &numbers, is_wide(p.height))
 }
 
-// The first n points.
-fn put_points(buf: &mut [u8], at: usize, points: [Point; 65], n: usize)
-    requires { (n ≤ 65) × ((at + 84 * n ≤ length buf.old) × points_fit (take n points)) }
-    ensures { buf.new ≡ put_at buf.old at (joined (map point_line (take n points))) }
+// The points: their length.
+fn put_points(buf: &mut [u8], points: &[Point]) -> usize
+    requires { (84 * length points.now ≤ length buf.old) × points_fit points.now }
+    ensures value { result ≡ length (joined (map point_line points.now)) }
+    ensures buf_after { buf.new ≡ put_at buf.old 0 (joined (map point_line points.now)) }
 {
-    for k in 0..n {
-        let point = points[k];
-        put_point(buf, at + 84 * k, point);
+    let mut at = 0;
+    for point in points {
+        at += put_point(&mut buf[at..], point);
+    }
+    at
+}
+
+// What closing the line gave: its length.
+#[tactic(auto, using(crate::proofs::Written::put_closing))]
+fn put_closing(buf: &mut [u8], figures: &LineFigures) -> usize
+    requires { ClosingFits figures.now × (length (joined (figures_lines figures.now)) ≤ length buf.old) }
+    ensures value { result ≡ length (joined (figures_lines figures.now)) }
+    ensures buf_after { buf.new ≡ put_at buf.old 0 (joined (figures_lines figures.now)) }
+{
+    let n = figures.summary.count + 1;
+    let at = put_closed(buf, &figures.summary);
+    at + put_points(&mut buf[at..], &figures.points[..n])
+}
+
+// What the report says of the book's line, CLO and PNT or OPN: its length.
+fn put_book(buf: &mut [u8], b: &Book) -> usize
+    requires { Printable b.now × (length (joined (book_lines b.now)) ≤ length buf.old) }
+    ensures value { result ≡ length (joined (book_lines b.now)) }
+    ensures buf_after { buf.new ≡ put_at buf.old 0 (joined (book_lines b.now)) }
+{
+    match figures_of(*b) {
+        Ok(figures) => put_closing(buf, &figures),
+        Err(_) => put_open(buf, b.sections.count),
     }
 }
 
-// What closing the line gave: the index after it.
-fn put_closing(buf: &mut [u8], at: usize, summary: Summary, points: [Point; 65]) -> usize
-    requires { ClosingFits summary points × (at + length (joined (closing_lines (closing_in summary points))) ≤ length buf.old) }
-    ensures value { result ≡ at + length (joined (closing_lines (closing_in summary points))) }
-    ensures buf_after { buf.new ≡ put_at buf.old at (joined (closing_lines (closing_in summary points))) }
+// The refusals, and what is said of the book's line: their length.
+#[tactic(auto, using(crate::proofs::Written::put_below))]
+fn put_below(buf: &mut [u8], s: &State) -> usize
+    requires { (65352 ≤ length buf.old) × (Printable s.now.book × (length (joined (below_title s.now)) ≤ length buf.old)) }
+    ensures value { result ≡ length (joined (below_title s.now)) }
+    ensures buf_after { buf.new ≡ put_at buf.old 0 (joined (below_title s.now)) }
 {
-    let n = summary.count + 1;
-    put_closed(buf, at, summary);
-    put_points(buf, at + 84, points, n);
-    at + 84 + 84 * n
-}
-
-// What the report says of the book's line, CLO and PNT or OPN: the index after it.
-fn put_book(buf: &mut [u8], at: usize, b: Book) -> usize
-    requires { Printable b × (at + length (joined (book_lines b)) ≤ length buf.old) }
-    ensures value { result ≡ at + length (joined (book_lines b)) }
-    ensures buf_after { buf.new ≡ put_at buf.old at (joined (book_lines b)) }
-{
-    let figures = figures_of(b);
-    let answer = figures.answer;
-    let points = figures.points;
-    match answer {
-        CloseAnswer::Closed(summary) => put_closing(buf, at, summary, points),
-        CloseAnswer::NotClosed(_) => {
-            let sections = b.sections;
-            put_open(buf, at, sections.count);
-            at + 84
-        }
-    }
+    let at = put_refusals(buf, &s.refusals);
+    at + put_book(&mut buf[at..], &s.book)
 }
 
 // The report of what was read: its length.
-pub(crate) fn put_state(buf: &mut [u8], s: State) -> usize
-    requires { (65536 ≤ length buf.old) × (Printable s.book × (length (joined (state_lines s)) ≤ length buf.old)) }
-    ensures value { result ≡ length (joined (state_lines s)) }
-    ensures buf_after { buf.new ≡ put_at buf.old 0 (joined (state_lines s)) }
+#[tactic(auto, using(crate::proofs::Written::put_state))]
+pub(crate) fn put_state(buf: &mut [u8], s: &State) -> usize
+    requires { (65536 ≤ length buf.old) × (Printable s.now.book × (length (joined (state_lines s.now)) ≤ length buf.old)) }
+    ensures value { result ≡ length (joined (state_lines s.now)) }
+    ensures buf_after { buf.new ≡ put_at buf.old 0 (joined (state_lines s.now)) }
 {
-    let book = s.book;
-    let refusals = s.refusals;
     put_title(buf, 0);
-    let at = put_refusals(buf, 84, refusals);
-    put_book(buf, at, book)
+    84 + put_below(&mut buf[84..], s)
 }

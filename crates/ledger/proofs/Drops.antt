@@ -2,7 +2,8 @@
 use mathlib.Core.Path.{◌≡◌, refl, ap, ap₂, ◌∙◌}
 use mathlib.Core.Bool.{not, cond}
 use mathlib.Core.List.{List, [], ◌∷◌, ◌++◌}
-use mathlib.Core.Option.{Option, none}
+use Rattle.std.specs.declared.option.Option.{Option}
+use Rattle.std.specs.Prelude.{None}
 use Prim.Native.Nat.{ℕ}
 use lib.Dec.{eqb}
 use Rattle.rules.specs.declared.Stage.{Stage}
@@ -30,4 +31,4 @@ run_dropped r calls opened sections waiting =
 pub section_dropped : SectionDropped
 section_dropped r calls opened sections =
     let s : Reading = after r calls in
-    after_append r calls (drop_section ∷ []) ∙ takes drop_section (λ x. refl) s opened ∙ ap (λ (ss : List Levelled). with_lists s ss none []) sections
+    after_append r calls (drop_section ∷ []) ∙ takes drop_section (λ x. refl) s opened ∙ ap (λ (ss : List Levelled). with_lists s ss None []) sections

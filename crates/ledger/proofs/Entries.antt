@@ -1,12 +1,11 @@
 -- Laws of entries: they are read as the list of their calls is, and a book takes them as the plain reading does.
-use mathlib.Core.Path.{◌≡◌, refl, sym, ap, ◌∙◌}
+use mathlib.Core.Path.{◌≡◌, refl, ap}
 use mathlib.Core.List.{List, [], ◌∷◌, ◌++◌}
 use Prim.Native.Nat.{ℕ, suc}
 use lib.ListN.{length}
 use Rattle.rules.specs.declared.Book.{Book}
-use Rattle.book.specs.declared.Step.{Step}
 use Rattle.ledger.specs.Plain.{Reading, next, after, refusal, refusals, plain_state}
-use Rattle.ledger.specs.Entries.{Entry, asks, refused, entry_refusal, entry_next, entry_step, entry_refusals, after_entries, calls_of, call_numbers}
+use Rattle.ledger.specs.Entries.{Entry, asks, refused, entry_refusal, entry_next, entry_number, entry_book, entry_refusals, after_entries, calls_of, call_numbers}
 use Rattle.ledger.proofs.Kept.{Kept, next_kept}
 use Rattle.ledger.proofs.Again.{book_of}
 use Rattle.ledger.proofs.Traced.{number, left}
@@ -44,9 +43,14 @@ module _ (r : Reading) (k : Kept (plain_state r)) where
   entry_kept (asks c) = next_kept r c k
   entry_kept (refused n) = k
 
-  pub entry_step_lem : (e : Entry) → entry_step (book_of r) e ≡ record { number = entry_refusal r e; book = book_of (entry_next r e) }
-  entry_step_lem (asks c) = λ i. record { number = number r k c i; book = left r k c i }
-  entry_step_lem (refused n) = refl
+  module _ {b : Book} (p : b ≡ book_of r) where
+    pub entry_number_lem : (e : Entry) → entry_number b e ≡ entry_refusal r e
+    entry_number_lem (asks c) = number r k c p
+    entry_number_lem (refused n) = refl
+
+    pub entry_book_lem : (e : Entry) → entry_book b e ≡ book_of (entry_next r e)
+    entry_book_lem (asks c) = left r k c p
+    entry_book_lem (refused n) = p
 
 pub entries_kept : (r : Reading) → Kept (plain_state r) → (es : List Entry) → Kept (plain_state (after_entries r es))
 entries_kept r k [] = k

@@ -1,8 +1,9 @@
 -- Every list of calls: a line that it leaves closed was closed once and soundly; and its refused calls can be struck out.
 use mathlib.Core.Path.{◌≡◌, refl, sym, ap, subst, ◌∙◌}
-use mathlib.Core.Bool.{Bool, true, false, not, cond, ◌||◌}
+use mathlib.Core.Bool.{Bool, true, false, not, cond}
 use mathlib.Core.List.{List, [], ◌∷◌, ◌++◌, map}
-use mathlib.Core.Option.{Option, none, some}
+use Rattle.std.specs.declared.option.Option.{Option}
+use Rattle.std.specs.Prelude.{Some, None}
 use native.Mathlib.Omega.{arith}
 use lib.Dec.{eqb, eqb→eq}
 use lib.IntN.{ℤ, pos, ◌*ℤ◌, +ℤ_idl}
@@ -23,9 +24,9 @@ use Rattle.adjust.proofs.Lines.{line_sound, line_near, raw_heights_lem}
 use Rattle.rules.specs.declared.Stage.{Stage}
 use Rattle.rules.specs.declared.Stage.TheVariants.{Closed}
 use Rattle.rules.specs.LineState.{LineState}
-use Rattle.rules.specs.Rules.{Call, open_line, station, end_run, drop_run, drop_section, close_line, open_spur, close_spur, collimation, is_closing, input_tests}
+use Rattle.rules.specs.Rules.{Call, open_line, end_run, drop_run, drop_section, close_line, open_spur, close_spur, is_closing, input_tests}
 use Rattle.ledger.specs.Plain.{Reading, Awaited, fresh_reading, after, next, taken, refusal, plain_state, run_ended, refusals, figures_of, given, closings}
-use Rattle.ledger.specs.Claims.{others, Ends, SoundClosing, SpurHeights, ClosedBy, by_end, by_fin, EveryList, taken_only, StruckOut}
+use Rattle.ledger.specs.Claims.{others, Ends, SoundClosing, SpurHeights, ClosedBy, by_end, by_fin, ClosedOnce, EveryList, taken_only, StruckOut}
 use Rattle.rules.proofs.Tables.{fails}
 use Rattle.ledger.proofs.Follows.{recast}
 use Rattle.ledger.proofs.Kept.{open_not_closed, fresh_not_closed, closed_long}
@@ -34,44 +35,32 @@ use Rattle.ledger.proofs.Kept.{open_not_closed, fresh_not_closed, closed_long}
 
 -- the reading at another stage
 abbrev staged : Reading → Stage → Reading
-staged r s = record { stage = s; opening = r.opening; end = r.end; sections = r.sections; waiting = r.waiting; present = r.present }
+staged r s = record r { stage = s }
 
 module _ (r : Reading) (e : r.stage ≡ Closed) where
   refuses : (c : Call) → eqb (refusal r c) 0 ≡ false
   refuses c = ap (λ (x : Stage). eqb (refusal (staged r x) c) 0) e ∙ go c
     where
       go : (c : Call) → eqb (refusal (staged r Closed) c) 0 ≡ false
-      go (open_line o i n h) = met (input_tests (open_line o i n h)) 21 refl refl
-      go (station kb kf m) = met (input_tests (station kb kf m)) 21 refl refl
-      go (end_run n) = met (input_tests (end_run n)) 21 refl refl
       go drop_run = refl
       go drop_section = refl
-      go (close_line n h) = met (input_tests (close_line n h)) 21 refl refl
-      go (open_spur o i n h) = met (input_tests (open_spur o i n h)) 21 refl refl
-      go (close_spur n) = met (input_tests (close_spur n)) 21 refl refl
-      go (collimation x) = met (input_tests (collimation x)) 21 refl refl
+      go c = met (input_tests c) 21 refl refl
 
   shut_stays : (cs : List Call) → after r cs ≡ r
   shut_stays [] = refl
-  shut_stays (c ∷ cs) = ap (λ (t : Bool). after (cond t (taken r c) r) cs) (refuses c) ∙ shut_stays cs
+  shut_stays (c ∷ cs) = rw (refuses c) (shut_stays cs)
 
   shut_gives : (cs : List Call) → closings r cs ≡ []
   shut_gives [] = refl
-  shut_gives (c ∷ cs) = ap (λ (t : Bool). cond t (given r c) [] ++ closings (cond t (taken r c) r) cs) (refuses c) ∙ shut_gives cs
+  shut_gives (c ∷ cs) = rw (refuses c) (shut_gives cs)
 
 -- ---- which calls close a line
 
 -- a closing that is taken leaves it closed
 pub closes_line : (r : Reading) (c : Call) → is_closing c ≡ true → (taken r c).stage ≡ Closed
-closes_line r (open_line o i m h) e = no_true e
-closes_line r (station kb kf m) e = no_true e
-closes_line r (end_run m) e = no_true e
-closes_line r drop_run e = no_true e
-closes_line r drop_section e = no_true e
 closes_line r (close_line m h) e = refl
-closes_line r (open_spur o i m h) e = no_true e
 closes_line r (close_spur m) e = refl
-closes_line r (collimation x) e = no_true e
+closes_line r c e = no_true e
 
 -- ---- a line that is closed in the end was closed once
 
@@ -111,22 +100,19 @@ behind c cs r e f =
     }
 
 ended_stage : (r : Reading) (class : Class) (waiting : Option Awaited) (n : ℤ) → (run_ended (recast r class waiting) n).stage ≡ r.stage
-ended_stage r Third none n = refl
-ended_stage r Fourth none n = refl
-ended_stage r Spur none n = refl
-ended_stage r class (some w) n = refl
+ended_stage r Third None n = refl
+ended_stage r Fourth None n = refl
+ended_stage r Spur None n = refl
+ended_stage r class (Some w) n = refl
 
 -- another call leaves it as far as it was, or open
 stays_open : (r : Reading) (c : Call) → is_closing c ≡ false → NotClosed r → NotClosed (taken r c)
 stays_open r (open_line o i m h) e n = open_not_closed
-stays_open r (station kb kf m) e n = n
-stays_open r (end_run m) e n = λ k. n (sym (ended_stage r r.opening.class r.waiting m) ∙ k)
-stays_open r drop_run e n = n
-stays_open r drop_section e n = n
-stays_open r (close_line m h) e n = no_true (sym e)
 stays_open r (open_spur o i m h) e n = open_not_closed
+stays_open r (end_run m) e n = λ k. n (sym (ended_stage r r.opening.class r.waiting m) ∙ k)
+stays_open r (close_line m h) e n = no_true (sym e)
 stays_open r (close_spur m) e n = no_true (sym e)
-stays_open r (collimation x) e n = n
+stays_open r c e n = n
 
 pub either : {A : Type 0} (t : Bool) {x y : A} → x ≡ y → cond t x y ≡ y
 either true e = e
@@ -150,14 +136,11 @@ found (c ∷ cs) r n e = go (found cs) (is_closing c) (eqb (refusal r c) 0) refl
           split = refl;
           closing = k;
           accepted = eqb→eq (refusal r c) 0 (holds t);
-          once =
-              (λ i. beside r c (k i) (t i) ++ closings (cond (t i) (taken r c) r) cs)
-              ∙ ap (λ (l : List Closing). figures_of (taken r c) ∷ l) (shut_gives (taken r c) shut cs);
-          stays = ap (λ (b : Bool). after (cond b (taken r c) r) cs) t ∙ shut_stays (taken r c) shut cs;
+          once = rw (k, t) (ap (λ (l : List Closing). figures_of (taken r c) ∷ l) (shut_gives (taken r c) shut cs));
+          stays = rw t (shut_stays (taken r c) shut cs);
         }
-    go find true false k t = behind c cs r (ap (beside r c (is_closing c)) t) (find (next r c) (subst (λ (b : Bool). NotClosed (cond b (taken r c) r)) (sym t) n) e)
-    go find false t k u =
-        behind c cs r ((λ i. beside r c (k i) (eqb (refusal r c) 0)) ∙ either (eqb (refusal r c) 0) refl) (find (next r c) (next_open r c n (stays_open r c k n)) e)
+    go find true false k t = behind c cs r (rw t) (find (next r c) (rw t n) e)
+    go find false t k u = behind c cs r (rw k (either (eqb (refusal r c) 0) refl)) (find (next r c) (next_open r c n (stays_open r c k n)) e)
 
 -- ---- a line that is not closed in the end gave no closing
 
@@ -168,7 +151,8 @@ gives_none c cs r n = go (is_closing c) (eqb (refusal r c) 0) refl refl
     go : (k t : Bool) → is_closing c ≡ k → eqb (refusal r c) 0 ≡ t → beside r c k t ≡ []
     go true true k t =
         let shut = closes_line r c k in
-        absurd (n (ap (λ (b : Bool). (after (cond b (taken r c) r) cs).stage) t ∙ ap (λ (s : Reading). s.stage) (shut_stays (taken r c) shut cs) ∙ shut))
+        let stays : after r (c ∷ cs) ≡ taken r c = rw t (shut_stays (taken r c) shut cs) in
+        absurd (n (ap (λ (s : Reading). s.stage) stays ∙ shut))
     go false true k t = refl
     go k false e t = refl
 
@@ -189,10 +173,7 @@ module _ (v : LineState) where
   abbrev closed_with : Bool → Closing
   closed_with t =
       let s : Summary = (closing o v.line.end v.sections).summary in
-      record {
-        summary = record { closure = pos 1 *ℤ (framed t).closure; distance = s.distance; count = s.count; accidental = s.accidental; verdict = s.verdict };
-        points = points (framed t) o.start.number v.sections;
-      }
+      record { summary = record s { closure = pos 1 *ℤ (framed t).closure }; points = points (framed t) o.start.number v.sections }
 
   module _ (h : pos 1 ≤ℤ line_length v.sections) where
     ends : (t : Bool) → Ends t v.line.end (closed_with t)
@@ -213,18 +194,13 @@ spur_heights v gave s e =
 
 -- by END or by FIN: 41 tells which of them closes a line
 closed_by_lem : (r : Reading) (c : Call) → is_closing c ≡ true → refusal r c ≡ 0 → ClosedBy r c
-closed_by_lem r (open_line o i m h) k e = no_true k
-closed_by_lem r (station kb kf m) k e = no_true k
-closed_by_lem r (end_run m) k e = no_true k
-closed_by_lem r drop_run k e = no_true k
-closed_by_lem r drop_section k e = no_true k
 closed_by_lem r (close_line m h) k e = by_end m h (not-false (terms_of r.opening.class).tied (fails (plain_state r) (close_line m h) e 41))
-closed_by_lem r (open_spur o i m h) k e = no_true k
-closed_by_lem r (collimation x) k e = no_true k
 closed_by_lem r (close_spur m) k e = by_fin m (fails (plain_state r) (close_spur m) e 41)
+closed_by_lem r c k e = no_true k
 
-pub every_list : EveryList
-every_list calls e =
+-- told of what a list of calls gave
+pub closed_once : (calls : List Call) {all : List Closing} → all ≡ closings fresh_reading calls → (after fresh_reading calls).stage ≡ Closed → ClosedOnce calls all
+closed_once calls gave e =
     let f = found calls fresh_reading fresh_not_closed e in
     let r : Reading = taken (after fresh_reading f.before) f.call in
     record {
@@ -235,14 +211,17 @@ every_list calls e =
       closes = closed_by_lem (after fresh_reading f.before) f.call f.closing f.accepted;
       accepted = f.accepted;
       gave = figures_of r;
-      once = f.once;
+      once = gave ∙ f.once;
       sound = sound (plain_state r) (subst (λ (s : Reading). pos 1 ≤ℤ line_length (plain_state s).sections) f.stays (closed_long calls e));
       stays = f.stays;
     }
 
--- the figures of a reading's line are those that its closing gave
-pub same_figures : (calls : List Call) (e : (after fresh_reading calls).stage ≡ Closed) → figures_of (after fresh_reading calls) ≡ (every_list calls e).gave
-same_figures calls e = ap figures_of (every_list calls e).stays ∙ sym (every_list calls e).sound.figures
+pub every_list : EveryList
+every_list calls e = closed_once calls refl e
+
+-- the figures of the line are those that its closing gave
+pub same_figures : {calls : List Call} {all : List Closing} (x : ClosedOnce calls all) → figures_of (after fresh_reading calls) ≡ x.gave
+same_figures x = ap figures_of x.stays ∙ sym x.sound.figures
 
 -- ---- refused calls
 
@@ -255,17 +234,9 @@ same_taken [] r = (refl, refl)
 same_taken (c ∷ cs) r = go (same_taken cs) (eqb (refusal r c) 0) refl
   where
     go : ((s : Reading) → Same s (taken_only s cs) cs) → (b : Bool) → eqb (refusal r c) 0 ≡ b
-        → Same r (cond b (c ∷ []) [] ++ taken_only (cond b (taken r c) r) cs) (c ∷ cs)
-    go g true e =
-        let xs : List Call = taken_only (taken r c) cs in
-        subst (λ (t : Bool). (after (cond t (taken r c) r) xs ≡ after (cond t (taken r c) r) cs)
-        × (cond t (given r c) [] ++ closings (cond t (taken r c) r) xs ≡ cond t (given r c) [] ++ closings (cond t (taken r c) r) cs))
-        (sym e) ((g (taken r c)).0, ap (λ (l : List Closing). given r c ++ l) (g (taken r c)).1)
-    go g false e =
-        let xs : List Call = taken_only r cs in
-        subst (λ (t : Bool). (after r xs ≡ after (cond t (taken r c) r) cs)
-        × (closings r xs ≡ cond t (given r c) [] ++ closings (cond t (taken r c) r) cs))
-        (sym e) (g r)
+        → Same r (cond b (c ∷ []) [] ++ taken_only (next r c) cs) (c ∷ cs)
+    go g true e = ((g (next r c)).0, ap (λ (l : List Closing). cond (eqb (refusal r c) 0) (given r c) [] ++ l) (g (next r c)).1)
+    go g false e = rw e (g r)
 
 pub struck_out : StruckOut
 struck_out calls = same_taken calls fresh_reading
@@ -277,7 +248,5 @@ all_taken (c ∷ cs) r = go (all_taken cs) (eqb (refusal r c) 0) refl
   where
     go : ((s : Reading) → any_of (λ n. not (eqb n 0)) (refusals s (taken_only s cs)) ≡ false) → (b : Bool) → eqb (refusal r c) 0 ≡ b
         → any_of (λ n. not (eqb n 0)) (refusals r (cond b (c ∷ []) [] ++ taken_only (cond b (taken r c) r) cs)) ≡ false
-    go g true e =
-        let xs : List Call = taken_only (taken r c) cs in
-        subst (λ (t : Bool). not t || any_of (λ n. not (eqb n 0)) (refusals (cond t (taken r c) r) xs) ≡ false) (sym e) (g (taken r c))
+    go g true e = rw e (g (taken r c))
     go g false e = g r

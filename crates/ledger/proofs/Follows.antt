@@ -1,16 +1,17 @@
 -- The counts and sums of the plain reading's lists follow the calls as the rules say.
 use mathlib.Core.Path.{◌≡◌, refl, sym, ap, ◌∙◌}
 use mathlib.Core.List.{List, [], ◌∷◌, ◌++◌, map}
-use mathlib.Core.Option.{Option, none, some}
+use Rattle.std.specs.declared.option.Option.{Option}
+use Rattle.std.specs.Prelude.{Some, None}
 use lib.ListN.{length-append}
 use lib.IntN.{ℤ, pos, ◌+ℤ◌, +ℤ_assoc, +ℤ_comm}
 use Rattle.numbers.specs.Numbers.{sum, last_of}
 use Rattle.adjust.specs.declared.terms.Class.{Class}
 use Rattle.adjust.specs.declared.terms.Class.TheVariants.{Third, Fourth, Spur}
 use Rattle.station.specs.declared.Staffs.{Staffs}
-use Rattle.station.specs.Station.{Station, station_of, figures_of, sights, sight_difference, twice_height}
+use Rattle.station.specs.declared.Station.{Station}
+use Rattle.station.specs.Station.{station_of, figures_of, sights, sight_difference, twice_height}
 use Rattle.adjust.specs.declared.Section.{Section}
-use Rattle.rules.specs.declared.Waiting.TheVariants.{Nothing}
 use Rattle.rules.specs.LineState.{LineState, no_run, with_station}
 use Rattle.rules.specs.Rules as Rules
 use Rattle.rules.specs.Rules.{Call, open_line, station, end_run, drop_run, drop_section, close_line, open_spur, close_spur, collimation, with_runs, with_section}
@@ -20,15 +21,7 @@ use Rattle.ledger.specs.Plain.{Reading, Levelled, Awaited, run_of, section_of, p
 -- a reading with the class and the waiting list given: the end of a run goes by these two, so a proof goes by their cases and is then used
 -- at `recast r r.opening.class r.waiting`, which is r
 abbrev pub recast : Reading → Class → Option Awaited → Reading
-recast r class waiting =
-    record {
-      stage = r.stage;
-      opening = record { class = class; instrument = r.opening.instrument; start = r.opening.start; staffs = r.opening.staffs; collimated = r.opening.collimated };
-      end = r.end;
-      sections = r.sections;
-      waiting = waiting;
-      present = r.present;
-    }
+recast r class waiting = record r { opening = record r.opening { class = class }; waiting = waiting }
 
 -- ---- one station more
 
@@ -56,26 +49,20 @@ pub section_append : (c : Staffs) (xs : List Levelled) (x : Levelled) → map (s
 section_append c [] x = refl
 section_append c (y ∷ ys) x = ap (λ (l : List Section). section_of c y ∷ l) (section_append c ys x)
 
-finished : (r : Reading) (x : Levelled) → plain_state (with_lists r (r.sections ++ (x ∷ [])) none []) ≡ with_section (plain_state r) (section_of r.opening.staffs x)
-finished r x = λ i. record { line = with_runs (plain_state r).line Nothing no_run; sections = section_append r.opening.staffs r.sections x i }
+finished : (r : Reading) (x : Levelled) → plain_state (with_lists r (r.sections ++ (x ∷ [])) None []) ≡ with_section (plain_state r) (section_of r.opening.staffs x)
+finished r x = λ i. record { line = with_runs (plain_state r).line None no_run; sections = section_append r.opening.staffs r.sections x i }
 
 ended : (r : Reading) (class : Class) (waiting : Option Awaited) (n : ℤ)
     → plain_state (Plain.run_ended (recast r class waiting) n) ≡ Rules.run_ended (plain_state (recast r class waiting)) n
-ended r Third none n = refl
-ended r Spur none n = refl
-ended r Fourth none n = finished (recast r Fourth none) (record { number = n; outward = r.present; back = none })
-ended r class (some w) n = finished (recast r class (some w)) (record { number = w.number; outward = w.outward; back = some r.present })
+ended r Third None n = refl
+ended r Spur None n = refl
+ended r Fourth None n = finished (recast r Fourth None) (record { number = n; outward = r.present; back = None })
+ended r class (Some w) n = finished (recast r class (Some w)) (record { number = w.number; outward = w.outward; back = Some r.present })
 
 -- for every reading and every call, whether a list of calls leads there or not
 pub follows : (r : Reading) (c : Call) → plain_state (Plain.taken r c) ≡ Rules.taken (plain_state r) c
-follows r (open_line order instrument number height) = refl
 follows r (station kb kf readings) =
     let v : LineState = plain_state r in
     λ i. record { line = with_runs v.line v.line.waiting (run_append r.opening.staffs r.present (station_of kb kf readings) i); sections = v.sections }
 follows r (end_run number) = ended r r.opening.class r.waiting number
-follows r drop_run = refl
-follows r drop_section = refl
-follows r (close_line number end) = refl
-follows r (open_spur order instrument number height) = refl
-follows r (close_spur number) = refl
-follows r (collimation x) = refl
+follows r c = refl

@@ -3,6 +3,8 @@ use mathlib.Core.Path.{◌≡◌, refl, sym, ap, subst, ◌∙◌}
 use mathlib.Core.Bool.{Bool, true, false, not, cond, ◌&&◌, ◌||◌}
 use mathlib.Core.List.{List, [], ◌∷◌, ◌++◌}
 use Prim.Native.Nat.{ℕ, ◌%◌, ◌≤◌, ◌<◌}
+use Rattle.std.specs.declared.option.Option.{Option}
+use Rattle.std.specs.Prelude.{Some, None}
 use native.Mathlib.Nat.{le_refl}
 use native.Mathlib.Omega.{arith}
 use borrow.Author.Tests.{le-leb, lt-leb, leb-false, eqb-false, ne_eqb}
@@ -31,8 +33,7 @@ use Rattle.rules.specs.declared.Stage.{Stage}
 use Rattle.rules.specs.declared.Stage.TheVariants.{Fresh, Open, Closed}
 use Rattle.rules.specs.declared.Run.{Run}
 use Rattle.rules.specs.declared.Line.{Line}
-use Rattle.rules.specs.declared.Waiting.{Waiting}
-use Rattle.rules.specs.declared.Waiting.TheVariants.{Nothing, Outward}
+use Rattle.rules.specs.declared.Outward.{Outward}
 use Rattle.rules.specs.LineState.{LineState, is_fresh, is_open, is_closed, is_shut, is_empty, is_return, outward_or_return, no_run, one_way, both_ways, waiting_broken, misplaced, line_broken}
 use Rattle.rules.specs.Rules.{Call, open_line, station, end_run, drop_run, drop_section, close_line, open_spur, close_spur, collimation, is_closing, broken, input_tests, state_tests, refusal, book_refusal, number_in_range, discrepancy_within, class_of, opening_of, begun, closed_at, with_runs, with_section, run_ended, taken}
 use Rattle.rules.proofs.Tables.{fails}
@@ -52,9 +53,9 @@ fresh_not_closed e = let z : ◌≡◌ {A = ℕ} 0 1 = cc in omega arith
 -- ---- what is kept
 
 -- what waits beside n sections, levelled with the staffs c: a run leaves room for the section that it will be
-abbrev pub Awaits : Staffs → ℕ → Waiting → Type 0
-Awaits c n Nothing = Unit {0}
-Awaits c n (Outward number run) = Sized c run × (n < 64) × (nat_abs number ≤ 9999)
+abbrev pub Awaits : Staffs → ℕ → Option Outward → Type 0
+Awaits c n None = Unit {0}
+Awaits c n (Some w) = Sized c w.run × (n < 64) × (nat_abs w.number ≤ 9999)
 
 pub record Kept (v : LineState) : Type 0 where
   pub few : length v.sections ≤ 64
@@ -86,9 +87,9 @@ kept_unbroken v i call =
     none true = λ j. not (le-leb (length v.sections) 64 i.few j) || i.fit j
     none false = refl
 
-    waits : (w : Waiting) → Awaits c (length v.sections) w → waiting_broken w (length v.sections) ≡ false
-    waits Nothing k = refl
-    waits (Outward number run) k = λ j. not (run_fits_lem c run k.0 j) || lt-leb 64 (length v.sections) k.1 j
+    waits : (w : Option Outward) → Awaits c (length v.sections) w → waiting_broken w (length v.sections) ≡ false
+    waits None k = refl
+    waits (Some w) k = λ j. not (run_fits_lem c w.run k.0 j) || lt-leb 64 (length v.sections) k.1 j
 
 -- an open line is not fresh: what is left to see is what waits
 abbrev stray : LineState → Bool
@@ -114,22 +115,9 @@ open_placed l n o e =
     not_shut Closed e = no_true e
 
 -- other runs beside the same sections
-runs_kept : (v : LineState) (w : Waiting) (u : Run) → Kept v → is_open v.line.stage ≡ true → Awaits v.line.opening.staffs (length v.sections) w → Sized v.line.opening.staffs u
+runs_kept : (v : LineState) (w : Option Outward) (u : Run) → Kept v → is_open v.line.stage ≡ true → Awaits v.line.opening.staffs (length v.sections) w → Sized v.line.opening.staffs u
     → is_return w && not (terms_of v.line.opening.class).double ≡ false → Kept (record { line = with_runs v.line w u; sections = v.sections })
-runs_kept v w u i o k h e =
-    record {
-      few = i.few;
-      fit = i.fit;
-      present = h;
-      waiting = k;
-      start = i.start;
-      end = i.end;
-      closed = i.closed;
-      placed = open_placed (with_runs v.line w u) (length v.sections) o e;
-      number = i.number;
-      narrow_sections = i.narrow_sections;
-      nominal = i.nominal;
-    }
+runs_kept v w u i o k h e = assumption (open_placed (with_runs v.line w u) (length v.sections) o e)
 
 -- ---- the end of a run
 
@@ -183,18 +171,20 @@ run_kept v number i e =
     terms : Terms
     terms = terms_of v.line.opening.class
 
-    go : (w : Waiting) (t : Bool) → terms.double ≡ t → 0 < u.count → Awaits c n w → not (is_return w) && leb 64 n ≡ false
+    go : (w : Option Outward) (t : Bool) → terms.double ≡ t → 0 < u.count → Awaits c n w → not (is_return w) && leb 64 n ≡ false
         → outward_or_return w false (λ outward run. not (discrepancy_within terms.apart (both_ways outward run u))) ≡ false
         → Kept (outward_or_return w
-        (cond t (record { line = with_runs v.line (Outward number u) no_run; sections = v.sections }) (with_section v (one_way number u)))
+        (cond t (record { line = with_runs v.line (Some (record { number = number; run = u })) no_run; sections = v.sections }) (with_section v (one_way number u)))
         (λ outward run. with_section v (both_ways outward run u)))
-    go Nothing true both some k room d = runs_kept v (Outward number u) no_run i running (i.present, leb-false 64 n room, small) (no_run_sized c) (λ j. not (both j))
-    go Nothing false both some k room d =
+    go None true both some k room d =
+        runs_kept v (Some (record { number = number; run = u })) no_run i running (i.present, leb-false 64 n room, small) (no_run_sized c) (λ j. not (both j))
+    go None false both some k room d =
         section_kept v (one_way number u) i running (leb-false 64 n room) (one_way_fits c number u i.present some) (one_way_narrow c number u small i.present)
-    go (Outward outward run) t both some k room d =
-        let near = not-false (discrepancy_within terms.apart (both_ways outward run u)) d in
-        section_kept v (both_ways outward run u) i running k.1 (both_ways_fits c terms (row v.line.opening.class) outward run u k.0 i.present some near)
-        (both_ways_narrow c outward run u k.2 k.0 i.present)
+    go (Some w) t both some k room d =
+        let x = both_ways w.number w.run u in
+        let near = not-false (discrepancy_within terms.apart x) d in
+        section_kept v x i running k.1 (both_ways_fits c terms (row v.line.opening.class) w.number w.run u k.0 i.present some near)
+        (both_ways_narrow c w.number w.run u k.2 k.0 i.present)
 
 -- ---- a call
 
@@ -230,19 +220,8 @@ closed_kept : (v : LineState) (end : ℤ) → Kept v → height_in_range end ≡
     → Kept (record { line = closed_at v.line end; sections = v.sections })
 closed_kept v end i known ready =
     let some : 1 ≤ length v.sections = not_empty v.sections (or_r (not (eqb v.line.present.count 0) || is_return v.line.waiting) (is_empty v.sections) ready) in
-    record {
-      few = i.few;
-      fit = i.fit;
-      present = i.present;
-      waiting = i.waiting;
-      start = i.start;
-      end = known;
-      closed = λ c. some;
-      placed = λ j. no_stray v i j || ne_eqb (length v.sections) 0 (λ z. omega arith) j;
-      number = i.number;
-      narrow_sections = i.narrow_sections;
-      nominal = i.nominal;
-    }
+    let placed : misplaced (closed_at v.line end) (length v.sections) ≡ false = λ j. no_stray v i j || ne_eqb (length v.sections) 0 (λ z. omega arith) j in
+    assumption placed
 
 taken_kept : (v : LineState) (c : Call) → Kept v → refusal v c ≡ 0 → Kept (taken v c)
 taken_kept v (open_line order instrument number height) i e =
@@ -252,26 +231,13 @@ taken_kept v (station kb kf readings) i e =
 taken_kept v (end_run number) i e = run_kept v number i e
 taken_kept v drop_run i e =
     runs_kept v v.line.waiting no_run i (not-false (is_open v.line.stage) (fails v drop_run e 21)) i.waiting (no_run_sized v.line.opening.staffs) (no_stray v i)
-taken_kept v drop_section i e = runs_kept v Nothing no_run i (not-false (is_open v.line.stage) (fails v drop_section e 21)) tt (no_run_sized v.line.opening.staffs) refl
+taken_kept v drop_section i e = runs_kept v None no_run i (not-false (is_open v.line.stage) (fails v drop_section e 21)) tt (no_run_sized v.line.opening.staffs) refl
 taken_kept v (close_line number end) i e =
     let test = fails v (close_line number end) e in closed_kept v end i (not-false (height_in_range end) (test 5)) (test 33)
 taken_kept v (open_spur order instrument number height) i e =
     let test = fails v (open_spur order instrument number height) e in opened_kept (opening_of Spur instrument number height) (test 4) (test 5) refl
 taken_kept v (close_spur number) i e = closed_kept v (pos 0) i refl (fails v (close_spur number) e 33)
-taken_kept v (collimation x) i e =
-    record {
-      few = i.few;
-      fit = i.fit;
-      present = i.present;
-      waiting = i.waiting;
-      start = i.start;
-      end = i.end;
-      closed = i.closed;
-      placed = i.placed;
-      number = i.number;
-      narrow_sections = i.narrow_sections;
-      nominal = i.nominal;
-    }
+taken_kept v (collimation x) i e = assumption
 
 -- ---- no call shortens the list of sections: one that opens a line finds none
 
@@ -285,27 +251,22 @@ fresh_none v i e =
     let empty = not-false (n && u && w) (sym (λ j. e j && not (n && u && w)) ∙ full) in
     eqb→eq (length v.sections) 0 (holds (and_l n u (and_l (n && u) w empty)))
 
-run_longer : (v : LineState) (number : ℤ) (w : Waiting) (t : Bool)
+run_longer : (v : LineState) (number : ℤ) (w : Option Outward) (t : Bool)
     → length v.sections
     ≤ length (outward_or_return w
-    (cond t (record { line = with_runs v.line (Outward number v.line.present) no_run; sections = v.sections }) (with_section v (one_way number v.line.present)))
+    (cond t (record { line = with_runs v.line (Some (record { number = number; run = v.line.present })) no_run; sections = v.sections }) (with_section v (one_way number v.line.present)))
     (λ outward run. with_section v (both_ways outward run v.line.present))).sections
-run_longer v number Nothing true = le_refl (length v.sections)
-run_longer v number Nothing false = rw (length-append v.sections (one_way number v.line.present ∷ [])) (omega arith)
-run_longer v number (Outward outward run) t = rw (length-append v.sections (both_ways outward run v.line.present ∷ [])) (omega arith)
+run_longer v number None true = le_refl (length v.sections)
+run_longer v number None false = rw (length-append v.sections (one_way number v.line.present ∷ [])) (omega arith)
+run_longer v number (Some w) t = rw (length-append v.sections (both_ways w.number w.run v.line.present ∷ [])) (omega arith)
 
 pub no_shorter : (v : LineState) (c : Call) → Kept v → refusal v c ≡ 0 → length v.sections ≤ length (taken v c).sections
 no_shorter v (open_line order instrument number height) i e =
     omega (arith, fresh_none v i (not-false (is_fresh v.line.stage) (fails v (open_line order instrument number height) e 21)))
-no_shorter v (station kb kf readings) i e = le_refl (length v.sections)
 no_shorter v (end_run number) i e = run_longer v number v.line.waiting (terms_of v.line.opening.class).double
-no_shorter v drop_run i e = le_refl (length v.sections)
-no_shorter v drop_section i e = le_refl (length v.sections)
-no_shorter v (close_line number end) i e = le_refl (length v.sections)
 no_shorter v (open_spur order instrument number height) i e =
     omega (arith, fresh_none v i (not-false (is_fresh v.line.stage) (fails v (open_spur order instrument number height) e 21)))
-no_shorter v (close_spur number) i e = le_refl (length v.sections)
-no_shorter v (collimation x) i e = le_refl (length v.sections)
+no_shorter v c i e = le_refl (length v.sections)
 
 -- ---- a list of calls
 

@@ -14,10 +14,10 @@ use Rattle.numbers.specs.Numbers.{within}
 use Rattle.numbers.proofs.Tests.{by_test, and_l, and_r, not-false}
 use Rattle.numbers.proofs.Ring.{ringℤ}
 use Rattle.numbers.proofs.Tables.{first_none}
-use Rattle.numbers.proofs.Parts.{ints, pos_part, neg_part, parts_add, parts_sub, parts_times, parts_abs, test_lt}
+use Rattle.numbers.proofs.Parts.{ints, pos_part, parts_add, parts_sub, parts_times, parts_abs, test_lt}
 use Rattle.numbers.proofs.Sizes.{abs_add, abs_sub, abs_mul, square_abs, within_size, within_true, between_true}
 use Rattle.roots.specs.Limit.{is_within}
-use Rattle.roots.proofs.LimitLaws.{within_le, le_within}
+use Rattle.roots.proofs.LimitLaws.{within_le}
 use Rattle.station.specs.declared.Order.{Order}
 use Rattle.station.specs.declared.Order.TheVariants.{Third, Fourth}
 use Rattle.station.specs.declared.Instrument.{Instrument}
@@ -25,7 +25,9 @@ use Rattle.station.specs.declared.Instrument.TheVariants.{Ds3, Ds1}
 use Rattle.station.specs.declared.Staffs.{Staffs}
 use Rattle.station.specs.declared.Limits.{Limits}
 use Rattle.station.specs.declared.Figures.{Figures}
-use Rattle.station.specs.Station.{Staff, Station, station_of, scale_of, constant_of, in_parts, figures_of, limits_of, sight, face_difference, twice_height, threads_in_order, reading_tests, reading_refusal}
+use Rattle.station.specs.declared.Staff.{Staff}
+use Rattle.station.specs.declared.Station.{Station}
+use Rattle.station.specs.Station.{station_of, scale_of, constant_of, in_parts, figures_of, limits_of, sight, face_difference, twice_height, threads_in_order, reading_tests, reading_refusal}
 use Rattle.station.proofs.Sizes.{read, scale_size}
 use Rattle.adjust.specs.declared.Section.{Section}
 use Rattle.adjust.specs.declared.terms.Terms.{Terms}

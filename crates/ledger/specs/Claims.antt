@@ -1,7 +1,6 @@
 -- What is claimed of every list of calls from a fresh book: of the closing taken in it (demand 3 of document 01; for spurs document 02, W-202), of the order of refusals, and of refused
 -- and dropped calls.
-use Rattle.std.specs.Prelude.{◌≡◌, Bool, true, false, cond, List, [], ◌∷◌, ◌++◌, map, eqb, ℤ, pos, neg_ℤ, ◌*ℤ◌, ◌≤ℤ◌}
-use Rattle.std.proofs.Math.Option.{none}
+use Rattle.std.specs.Prelude.{◌≡◌, Bool, true, false, cond, List, [], ◌∷◌, ◌++◌, map, eqb, ℤ, pos, neg_ℤ, ◌*ℤ◌, ◌≤ℤ◌, None}
 use Rattle.numbers.specs.Tables.{Lowest}
 use Rattle.adjust.specs.declared.Point.{Point}
 use Rattle.adjust.specs.Terms.{terms_of}
@@ -102,4 +101,4 @@ RunDropped =
 abbrev pub SectionDropped : Type 0
 SectionDropped =
     (r : Reading) (calls : List Call) → (after r calls).stage ≡ Open → (after r calls).sections ≡ r.sections
-    → after r (calls ++ (drop_section ∷ [])) ≡ with_lists (after r calls) r.sections none []
+    → after r (calls ++ (drop_section ∷ [])) ≡ with_lists (after r calls) r.sections None []

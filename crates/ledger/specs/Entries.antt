@@ -1,23 +1,26 @@
 -- Entries, as they stand in a text or in a list of numbers: each asks for a call, or is no record and is refused with a number of its own. Read over the
 -- plain reading, which a refused entry leaves as it was.
-use Rattle.std.specs.Prelude.{List, [], ◌∷◌, ◌++◌, ℕ, ℤ}
-use Rattle.records.specs.declared.Kind.{Kind}
-use Rattle.records.specs.declared.Kind.TheVariants.{Record, Refused}
+use Rattle.std.specs.Prelude.{List, [], ◌∷◌, ◌++◌, ℕ, Ok, Err}
+use Rattle.std.specs.declared.result.Result.{Result}
+use Rattle.records.specs.declared.Record.{Record}
+use Rattle.records.specs.declared.Refusal.{Refusal}
+use Rattle.records.specs.Refusals.{refusal_number}
 use Rattle.rules.specs.declared.Book.{Book}
-use Rattle.rules.specs.Rules.{Call}
+use Rattle.rules.specs.LineState.{state_of}
+use Rattle.rules.specs.Rules.{Call, book_refusal}
 use Rattle.rules.specs.Records.{call_of}
-use Rattle.book.specs.declared.Step.{Step}
-use Rattle.book.specs.Calls.{step_of}
+use Rattle.book.specs.Calls.{book_after}
 use Rattle.ledger.specs.Plain.{Reading, next, refusal}
 
+-- no `Result`, whose `Ok` would read as a call that is taken: one that is asked for may be refused in its turn
 pub data Entry : Type 0 where
   asks : Call → Entry
   refused : ℕ → Entry
 
--- of a record and its numbers
-abbrev pub entry_of : Kind → List ℤ → Entry
-entry_of (Record t) v = asks (call_of t v)
-entry_of (Refused n) v = refused n
+-- of a record, or what is none
+abbrev pub entry_of : Result Record Refusal → Entry
+entry_of (Ok x) = asks (call_of x.tag x.values)
+entry_of (Err e) = refused (refusal_number e)
 
 -- its number, 0 where its call is taken, and the reading after it
 abbrev pub entry_refusal : Reading → Entry → ℕ
@@ -29,9 +32,13 @@ entry_next r (asks c) = next r c
 entry_next r (refused n) = r
 
 -- the same of a book
-abbrev pub entry_step : Book → Entry → Step
-entry_step b (asks c) = step_of b c
-entry_step b (refused n) = record { number = n; book = b }
+abbrev pub entry_number : Book → Entry → ℕ
+entry_number b (asks c) = book_refusal (state_of b) c
+entry_number b (refused n) = n
+
+abbrev pub entry_book : Book → Entry → Book
+entry_book b (asks c) = book_after b c
+entry_book b (refused n) = b
 
 -- ---- a list of entries
 

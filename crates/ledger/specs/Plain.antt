@@ -1,13 +1,14 @@
 -- Document 01's 'plain reading' of a list of calls: it keeps lists of stations and no sum, and judges each call by the rules read over these lists.
 -- Its 'standing list' is what a `Reading` keeps: the finished sections, the outward list that waits and the list of the present run.
-use Rattle.std.specs.Prelude.{false, cond, List, [], ◌∷◌, ◌++◌, map, ℕ, length, eqb, ℤ, pos}
-use Rattle.std.proofs.Math.Option.{Option, none, some}
+use Rattle.std.specs.Prelude.{false, cond, List, [], ◌∷◌, ◌++◌, map, ℕ, length, eqb, ℤ, pos, Some, None}
+use Rattle.std.specs.declared.option.Option.{Option}
 use Rattle.numbers.specs.Numbers.{sum, last_of}
 use Rattle.adjust.specs.declared.terms.Class.TheVariants.{Fourth, Spur}
 use Rattle.station.specs.declared.Instrument.TheVariants.{Ds3}
 use Rattle.station.specs.declared.Staffs.{Staffs}
 use Rattle.station.specs.declared.Staffs.TheVariants.{Nominal}
-use Rattle.station.specs.Station.{Station, station_of, sights, sight_difference, twice_height}
+use Rattle.station.specs.declared.Station.{Station}
+use Rattle.station.specs.Station.{station_of, sights, sight_difference, twice_height}
 use Rattle.adjust.specs.declared.Opening.{Opening}
 use Rattle.adjust.specs.declared.Section.{Section}
 use Rattle.adjust.specs.Terms.{terms_of}
@@ -15,8 +16,7 @@ use Rattle.adjust.specs.Line.{Closing, closing}
 use Rattle.rules.specs.declared.Stage.{Stage}
 use Rattle.rules.specs.declared.Stage.TheVariants.{Fresh, Open, Closed}
 use Rattle.rules.specs.declared.Run.{Run}
-use Rattle.rules.specs.declared.Waiting.{Waiting}
-use Rattle.rules.specs.declared.Waiting.TheVariants.{Nothing, Outward}
+use Rattle.rules.specs.declared.Outward.{Outward}
 use Rattle.rules.specs.LineState.{LineState, one_way, both_ways}
 use Rattle.rules.specs.Rules as Rules
 use Rattle.rules.specs.Rules.{Call, open_line, station, end_run, drop_run, drop_section, close_line, open_spur, close_spur, collimation, class_of, opening_of, collimated, is_closing}
@@ -58,12 +58,12 @@ abbrev pub section_of : Staffs → Levelled → Section
 section_of c x = go x.back
   where
     go : Option (List Station) → Section
-    go none = one_way x.number (run_of c x.outward)
-    go (some back) = both_ways x.number (run_of c x.outward) (run_of c back)
+    go None = one_way x.number (run_of c x.outward)
+    go (Some back) = both_ways x.number (run_of c x.outward) (run_of c back)
 
-abbrev pub waiting_of : Staffs → Option Awaited → Waiting
-waiting_of c none = Nothing
-waiting_of c (some w) = Outward w.number (run_of c w.outward)
+abbrev pub waiting_of : Staffs → Option Awaited → Option Outward
+waiting_of c None = None
+waiting_of c (Some w) = Some (record { number = w.number; run = run_of c w.outward })
 
 abbrev pub plain_state : Reading → LineState
 plain_state r =
@@ -84,28 +84,20 @@ plain_state r =
 
 -- the reading with other lists
 abbrev pub with_lists : Reading → List Levelled → Option Awaited → List Station → Reading
-with_lists r sections waiting present =
-    record {
-      stage = r.stage;
-      opening = r.opening;
-      end = r.end;
-      sections = sections;
-      waiting = waiting;
-      present = present;
-    }
+with_lists r sections waiting present = record r { sections = sections; waiting = waiting; present = present }
 
 abbrev pub run_ended : Reading → ℤ → Reading
 run_ended r number = go r.waiting
   where
     finished : Levelled → Reading
-    finished x = with_lists r (r.sections ++ (x ∷ [])) none []
+    finished x = with_lists r (r.sections ++ (x ∷ [])) None []
 
     go : Option Awaited → Reading
-    go none =
+    go None =
         cond (terms_of r.opening.class).double
-        (with_lists r r.sections (some (record { number = number; outward = r.present })) [])
-        (finished (record { number = number; outward = r.present; back = none }))
-    go (some w) = finished (record { number = w.number; outward = w.outward; back = some r.present })
+        (with_lists r r.sections (Some (record { number = number; outward = r.present })) [])
+        (finished (record { number = number; outward = r.present; back = None }))
+    go (Some w) = finished (record { number = w.number; outward = w.outward; back = Some r.present })
 
 -- a line that is opened has nothing in any list
 abbrev pub opened : Opening → Reading
@@ -115,43 +107,24 @@ opened o =
       opening = o;
       end = pos 0;
       sections = [];
-      waiting = none;
+      waiting = None;
       present = [];
     }
 
-abbrev pub with_opening : Reading → Opening → Reading
-with_opening r o =
-    record {
-      stage = r.stage;
-      opening = o;
-      end = r.end;
-      sections = r.sections;
-      waiting = r.waiting;
-      present = r.present;
-    }
-
 abbrev pub closed_on : Reading → ℤ → Reading
-closed_on r end =
-    record {
-      stage = Closed;
-      opening = r.opening;
-      end = end;
-      sections = r.sections;
-      waiting = r.waiting;
-      present = r.present;
-    }
+closed_on r end = record r { stage = Closed; end = end }
 
 abbrev pub taken : Reading → Call → Reading
 taken r (open_line order instrument number height) = opened (opening_of (class_of order) instrument number height)
 taken r (station kb kf readings) = with_lists r r.sections r.waiting (r.present ++ (station_of kb kf readings ∷ []))
 taken r (end_run number) = run_ended r number
 taken r drop_run = with_lists r r.sections r.waiting []
-taken r drop_section = with_lists r r.sections none []
+taken r drop_section = with_lists r r.sections None []
 taken r (close_line number end) = closed_on r end
 taken r (open_spur order instrument number height) = opened (opening_of Spur instrument number height)
 -- a spur has no end height: 0 stands for it
 taken r (close_spur number) = closed_on r (pos 0)
-taken r (collimation x) = with_opening r (collimated r.opening)
+taken r (collimation x) = record r { opening = collimated r.opening }
 
 -- ---- a list of calls
 
@@ -170,7 +143,7 @@ fresh_reading =
       opening = record { class = Fourth; instrument = Ds3; start = record { number = pos 0; height = pos 0 }; staffs = Nominal; collimated = false };
       end = pos 0;
       sections = [];
-      waiting = none;
+      waiting = None;
       present = [];
     }
 

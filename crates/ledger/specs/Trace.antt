@@ -1,19 +1,21 @@
--- A book's calls as a caller makes them: from a fresh book, each on the book that the call before it left, by its own function or by its record (`take`). Of each no more is known than its function's contract ensures. `Learnt` is that contract, read from the function itself.
-use Rattle.std.specs.Prelude.{◌≡◌, true, false, not, cond, List, [], ◌∷◌, ◌++◌, ℕ, eqb, ℤ}
+-- A book's calls as a caller makes them: from a fresh book, each on the book that the call before it left, by its own function or by its record (`take`). Of each no
+-- more is known than its function's contract ensures. `Learnt` is that contract, read from the function itself.
+use Rattle.std.specs.Prelude.{◌≡◌, true, false, not, cond, List, [], ◌∷◌, ◌++◌, ℕ, eqb, Ok}
 use Rattle.numbers.specs.Numbers.{any_of}
-use Rattle.records.specs.Answers.{number_of}
+use Rattle.records.specs.Refusals.{number_of}
+use Rattle.records.specs.declared.Refusal.{Refusal}
+use Rattle.records.specs.declared.Record.{Record}
+use Rattle.std.specs.declared.result.Result.{Result}
+use Rattle.adjust.specs.declared.LineFigures.{LineFigures}
 use Rattle.adjust.specs.Line.{Closing}
-use Rattle.records.specs.declared.Tag.{Tag}
 use Rattle.rules.specs.declared.Stage.TheVariants.{Closed}
 use Rattle.rules.specs.declared.Book.{Book}
-use Rattle.book.specs.declared.Step.{Step}
 use Rattle.book.specs.declared.Outcome.{Outcome}
-use Rattle.book.specs.declared.ClosedFigures.{ClosedFigures}
-use Rattle.book.specs.declared.CloseOutcome.{CloseOutcome}
 use Rattle.rules.specs.LineState.{state_of, book_with}
 use Rattle.rules.specs.Rules.{Call, open_line, station, end_run, drop_run, drop_section, close_line, open_spur, close_spur, collimation, is_closing}
 use Rattle.rules.specs.Records.{call_of}
-use Rattle.book.specs.Calls.{fresh_book, close_number, close_figures, gave_of}
+use Rattle.adjust.specs.Frames.{adjusted_of}
+use Rattle.book.specs.Calls.{fresh_book, gave_of}
 use Rattle.book.proofs.fresh.Reads as fresh_reads
 use Rattle.book.proofs.calls.«open».Reads as open_reads
 use Rattle.book.proofs.calls.station.Reads as station_reads
@@ -33,7 +35,7 @@ abbrev pub FreshEnsures : Book → Type 0
 FreshEnsures b = fresh_reads.Learnt tt tt b tt
 
 -- of a call but closing, whose outcome is another
-abbrev pub Ensures : Book → Call → Outcome → Type 0
+abbrev pub Ensures : Book → Call → Outcome (Unit {0}) → Type 0
 Ensures b (open_line order instrument number height) r =
     open_reads.Learnt tt (b, (order, (instrument, (number, (height, tt))))) r (b, (order, (instrument, (number, (height, tt)))))
 Ensures b (station kb kf readings) r = station_reads.Learnt tt (b, (kb, (kf, (readings, tt)))) r (b, (kb, (kf, (readings, tt))))
@@ -47,7 +49,7 @@ Ensures b (close_spur number) r = ⊥
 Ensures b (collimation x) r = collimation_reads.Learnt tt (b, (x, tt)) r (b, (x, tt))
 
 -- and of a closing
-abbrev pub CloseEnsures : Book → Call → CloseOutcome → Type 0
+abbrev pub CloseEnsures : Book → Call → Outcome LineFigures → Type 0
 CloseEnsures b (open_line order instrument number height) r = ⊥
 CloseEnsures b (station kb kf readings) r = ⊥
 CloseEnsures b (end_run number) r = ⊥
@@ -58,28 +60,33 @@ CloseEnsures b (open_spur order instrument number height) r = ⊥
 CloseEnsures b (close_spur number) r = close_spur_reads.Learnt tt (b, (number, tt)) r (b, (number, tt))
 CloseEnsures b (collimation x) r = ⊥
 
-abbrev pub FiguresEnsures : Book → ClosedFigures → Type 0
+abbrev pub FiguresEnsures : Book → Result LineFigures Refusal → Type 0
 FiguresEnsures b f = figures_of_reads.Learnt tt (b, tt) f (b, tt)
 
--- of any call, by its record's tag and numbers
-abbrev pub TakeEnsures : Book → Tag → List ℤ → Step → Type 0
-TakeEnsures b tag v s = take_reads.Learnt tt (b, (tag, (v, tt))) s (b, (tag, (v, tt)))
+-- of any call, by its record
+abbrev pub TakeEnsures : Book → Record → Outcome (Unit {0}) → Type 0
+TakeEnsures b x r = take_reads.Learnt tt (b, (x, tt)) r (b, (x, tt))
+
+-- the call of a record
+abbrev pub record_call : Record → Call
+record_call x = call_of x.tag x.values
 
 -- a record that closes the line gives no figures: the book that it leaves does, where it was taken
-abbrev pub had_of : Step → ClosedFigures → List Closing
-had_of s f = cond (eqb s.number 0) (gave_of f.answer f.points) []
+abbrev pub had_of : Outcome (Unit {0}) → Result LineFigures Refusal → List Closing
+had_of r f = cond (eqb (number_of r.answer) 0) (gave_of f) []
 
 -- the calls made of a book, the numbers that they answered, what its closings gave and the book that was left
 pub data Trace : Book → List Call → List ℕ → List Closing → Book → Type 0 where
   done : {b : Book} → Trace b [] [] [] b
-  call : {b e : Book} {c : Call} {cs : List Call} {ns : List ℕ} {gs : List Closing} (r : Outcome) → Ensures b c r → Trace r.book cs ns gs e
+  call : {b e : Book} {c : Call} {cs : List Call} {ns : List ℕ} {gs : List Closing} (r : Outcome (Unit {0})) → Ensures b c r → Trace r.book cs ns gs e
       → Trace b (c ∷ cs) (number_of r.answer ∷ ns) gs e
-  close : {b e : Book} {c : Call} {cs : List Call} {ns : List ℕ} {gs : List Closing} (r : CloseOutcome) → CloseEnsures b c r → Trace r.book cs ns gs e
-      → Trace b (c ∷ cs) (close_number r.answer ∷ ns) (gave_of r.answer r.points ++ gs) e
-  took : {b e : Book} {cs : List Call} {ns : List ℕ} {gs : List Closing} (tag : Tag) (v : List ℤ) (s : Step) → is_closing (call_of tag v) ≡ false → TakeEnsures b tag v s
-      → Trace s.book cs ns gs e → Trace b (call_of tag v ∷ cs) (s.number ∷ ns) gs e
-  took_closing : {b e : Book} {cs : List Call} {ns : List ℕ} {gs : List Closing} (tag : Tag) (v : List ℤ) (s : Step) (f : ClosedFigures) → is_closing (call_of tag v) ≡ true
-      → TakeEnsures b tag v s → FiguresEnsures s.book f → Trace s.book cs ns gs e → Trace b (call_of tag v ∷ cs) (s.number ∷ ns) (had_of s f ++ gs) e
+  close : {b e : Book} {c : Call} {cs : List Call} {ns : List ℕ} {gs : List Closing} (r : Outcome LineFigures) → CloseEnsures b c r → Trace r.book cs ns gs e
+      → Trace b (c ∷ cs) (number_of r.answer ∷ ns) (gave_of r.answer ++ gs) e
+  took : {b e : Book} {cs : List Call} {ns : List ℕ} {gs : List Closing} (x : Record) (r : Outcome (Unit {0})) → is_closing (record_call x) ≡ false → TakeEnsures b x r
+      → Trace r.book cs ns gs e → Trace b (record_call x ∷ cs) (number_of r.answer ∷ ns) gs e
+  took_closing : {b e : Book} {cs : List Call} {ns : List ℕ} {gs : List Closing} (x : Record) (r : Outcome (Unit {0})) (f : Result LineFigures Refusal)
+      → is_closing (record_call x) ≡ true → TakeEnsures b x r → FiguresEnsures r.book f → Trace r.book cs ns gs e
+      → Trace b (record_call x ∷ cs) (number_of r.answer ∷ ns) (had_of r f ++ gs) e
 
 -- ---- the claim about the whole list
 
@@ -95,7 +102,7 @@ pub record SoundTrace (calls : List Call) (ns : List ℕ) (gs : List Closing) (e
   -- a line that the calls left closed was closed once and soundly
   pub closed : e.line.stage ≡ Closed → ClosedOnce calls gs
   -- and its figures can be had of the book again
-  pub again : (c : e.line.stage ≡ Closed) (x : ClosedFigures) → FiguresEnsures e x → x ≡ close_figures 0 (closed c).gave
+  pub again : (c : e.line.stage ≡ Closed) (x : Result LineFigures Refusal) → FiguresEnsures e x → x ≡ Ok (adjusted_of (closed c).gave)
   -- a line that they did not leave closed gave no closing
   pub unclosed : (e.line.stage ≡ Closed → ⊥) → gs ≡ []
 

@@ -4,7 +4,8 @@ use Rattle.roots.specs.Round.{round_even}
 use Rattle.roots.specs.Limit.{is_within}
 use Rattle.collimation.specs.Collimation.{within_angle}
 use Rattle.station.specs.declared.Staffs.TheVariants.{Nominal}
-use Rattle.station.specs.Station.{Station, station_of, sight_difference, face_difference, twice_height}
+use Rattle.station.specs.declared.Station.{Station}
+use Rattle.station.specs.Station.{station_of, sight_difference, face_difference, twice_height}
 use Rattle.adjust.specs.declared.Section.{Section}
 use Rattle.adjust.specs.declared.Point.{Point}
 use Rattle.adjust.specs.declared.Frame.{Frame}

@@ -1,6 +1,7 @@
 -- Tests of whole numbers, sums and arrays: the words in which the rules are written.
-use Rattle.std.specs.Prelude.{Bool, false, ◌&&◌, ◌||◌, List, [], ◌∷◌, ◌++◌, ℕ, leb, eqb, length, take, drop, replicate, ℤ, pos, negsuc, nat_abs, ◌+ℤ◌}
+use Rattle.std.specs.Prelude.{Bool, false, ◌&&◌, List, [], ◌∷◌, ◌++◌, ℕ, leb, eqb, length, take, drop, replicate, ℤ, pos, negsuc, nat_abs, ◌+ℤ◌}
 use Rattle.std.specs.Int.Signed.{le_z}
+use Rattle.std.specs.List.{list_any}
 
 -- the magnitude of x is at most the limit
 abbrev pub within : ℤ → ℕ → Bool
@@ -20,8 +21,7 @@ sum [] = pos 0
 sum (x ∷ xs) = x +ℤ sum xs
 
 abbrev pub any_of : {A : Type 0} → (A → Bool) → List A → Bool
-any_of p [] = false
-any_of p (x ∷ xs) = p x || any_of p xs
+any_of p xs = list_any p xs
 
 -- the last element, or a where there is none
 abbrev pub last_of : {A : Type 0} → A → List A → A

@@ -7,11 +7,12 @@ use lib.IntN.{ℤ, pos, nat_abs, ◌+ℤ◌, ◌-ℤ◌, ◌*ℤ◌, *ℤ-zero}
 use lib.Signed.{◌≤ℤ◌, lt_z, quot_z, rem_z}
 use mir.Syntax.{w64}
 use mir.Val.{SFits, to_z, bool_byte}
+use Rattle.std.proofs.lemmas.Int.{rem_below, quot_fits}
 use Rattle.numbers.proofs.Ring.{mul_oneℤ}
 use Rattle.numbers.proofs.Parts.{ints, parts_abs, pos_abs}
 use Rattle.numbers.proofs.Machine.{stored, stored_id, stored_as, fits_as, abs_fits, fits_abs, literal_as, add_as, sub_as, mul_as, quot_as, rem_as, lt_as, bool_as}
 use Rattle.roots.specs.Round.{floor_div}
-use Rattle.roots.proofs.Floor.{floor_split, lowered, size_rem, quot_fits, floor_is, excess_is}
+use Rattle.roots.proofs.Floor.{floor_split, lowered, floor_is, excess_is}
 
 module _ {n d : ℤ} (fn : SFits w64 n) (fd : SFits w64 d) (h : pos 1 ≤ℤ d) where
   divisor_pos : 1 ≤ nat_abs d
@@ -24,10 +25,10 @@ module _ {n d : ℤ} (fn : SFits w64 n) (fd : SFits w64 d) (h : pos 1 ≤ℤ d) 
   quot_is = quot_as (stored_id fn) d_is
 
   quotient : stored (quot_z (stored n) (stored d)) ≡ quot_z n (pos (nat_abs d))
-  quotient = stored_as quot_is (quot_fits n (nat_abs d) fn)
+  quotient = stored_as quot_is (quot_fits w64 n (pos (nat_abs d)) fn (omega (ints, divisor_pos)))
 
   remainder : stored (rem_z (stored n) (stored d)) ≡ rem_z n (pos (nat_abs d))
-  remainder = stored_as (rem_as (stored_id fn) d_is) (abs_fits (omega (arith, size_rem n (nat_abs d) divisor_pos, fits_abs fd)))
+  remainder = stored_as (rem_as (stored_id fn) d_is) (abs_fits (omega (arith, rem_below n (pos (nat_abs d)) divisor_pos, fits_abs fd)))
 
   lowered_is : to_z w64 (bool_byte (lt_z (stored (rem_z (stored n) (stored d))) (pos 0))) ≡ lowered n (nat_abs d)
   lowered_is = bool_as (lt_as remainder (literal_as (pos 0)))

@@ -1,18 +1,19 @@
 -- The floor: what is left over it is below the divisor, nothing else has that property, and it is the quotient toward zero less 1 where the remainder is negative.
 use mathlib.Core.Path.{◌≡◌, refl, sym, ap, ◌∙◌}
 use mathlib.Core.Bool.{Bool, true, false}
-use Prim.Native.Nat.{ℕ, zero, suc, ◌*◌, ◌/◌, ◌%◌, ◌≤◌, ◌<◌}
+use Prim.Native.Nat.{ℕ, ◌*◌, ◌/◌, ◌≤◌, ◌<◌}
 use native.Mathlib.Decide.{dec_le}
 use native.Mathlib.Nat.{div-add-mod, div-le_self, mod-lt, mul-le-mul_left, mul-one, mul-suc}
 use native.Mathlib.Omega.{arith}
-use lib.IntN.{ℤ, pos, negsuc, neg_ℤ, nat_abs, ◌+ℤ◌, ◌-ℤ◌, ◌*ℤ◌, neg_ℤ-+ℤ}
+use lib.IntN.{ℤ, pos, negsuc, nat_abs, ◌+ℤ◌, ◌-ℤ◌, ◌*ℤ◌}
 use lib.Signed.{◌≤ℤ◌, ◌<ℤ◌, mag, lt_z, quot_z, rem_z}
 use mir.Syntax.{Width}
 use mir.Val.{SFits, bool_byte}
 use mir.ValLaws.{sfits_le}
-use Rattle.numbers.proofs.Ring.{ringℤ, mul_negℤ}
+use Rattle.std.proofs.lemmas.Int.{quot-rem, rem_below}
+use Rattle.numbers.proofs.Ring.{ringℤ}
 use Rattle.numbers.proofs.Parts.{ints, parts_add, parts_sub, parts_times, parts_abs, test_lt, test_ge}
-use Rattle.numbers.proofs.Sizes.{abs_neg, abs_mul, abs_apart}
+use Rattle.numbers.proofs.Sizes.{abs_mul, abs_apart}
 use Rattle.roots.specs.Round.{floor_div}
 
 -- n is r above d × q, with r from 0 to below d
@@ -69,14 +70,10 @@ abbrev pub lowered : ℤ → ℕ → ℤ
 lowered n d = pos (bool_byte (lt_z (rem_z n (pos d)) (pos 0)))
 
 division : (n : ℤ) (d : ℕ) → n ≡ pos d *ℤ quot_z n (pos d) +ℤ rem_z n (pos d)
-division (pos a) d = ap pos (sym (div-add-mod a d))
-division (negsuc a) d =
-    ap (λ (x : ℕ). neg_ℤ (pos x)) (sym (div-add-mod (suc a) d)) ∙ neg_ℤ-+ℤ (pos (d * (suc a / d))) (pos (suc a % d))
-    ∙ ap (λ (z : ℤ). z +ℤ neg_ℤ (pos (suc a % d))) (sym (mul_negℤ (pos d) (pos (suc a / d))))
-
-pub size_rem : (n : ℤ) (d : ℕ) → 0 < d → nat_abs (rem_z n (pos d)) < d
-size_rem (pos a) d h = mod-lt a h
-size_rem (negsuc a) d h = omega (arith, abs_neg (pos (suc a % d)), mod-lt (suc a) h)
+division n d = sym (quot-rem n (pos d)) ∙ turn (quot_z n (pos d)) (pos d) (rem_z n (pos d))
+  where
+    turn : (q d r : ℤ) → q *ℤ d +ℤ r ≡ d *ℤ q +ℤ r
+    turn q d r = simp ringℤ
 
 -- a remainder that is negative, raised by d, is from 0 to below d
 raised : (r : ℤ) (d : ℕ) → nat_abs r < d → (b : Bool) → lt_z r (pos 0) ≡ b → (pos 0 ≤ℤ (r +ℤ pos d *ℤ pos (bool_byte b))) × ((r +ℤ pos d *ℤ pos (bool_byte b)) <ℤ pos d)
@@ -92,7 +89,7 @@ raised r d h false e =
 -- so the quotient lowered and the remainder raised are a split
 machine_split : (n : ℤ) (d : ℕ) → 0 < d → Split n d (quot_z n (pos d) -ℤ lowered n d) (rem_z n (pos d) +ℤ pos d *ℤ lowered n d)
 machine_split n d h =
-    let u = raised (rem_z n (pos d)) d (size_rem n d h) (lt_z (rem_z n (pos d)) (pos 0)) refl in
+    let u = raised (rem_z n (pos d)) d (rem_below n (pos d) h) (lt_z (rem_z n (pos d)) (pos 0)) refl in
     record {
       is = ap (λ (z : ℤ). z -ℤ pos d *ℤ (quot_z n (pos d) -ℤ lowered n d)) (division n d) ∙ regroup (pos d) (quot_z n (pos d)) (rem_z n (pos d)) (lowered n d);
       low = u.0;
@@ -107,15 +104,3 @@ floor_is n d h = split_unique (machine_split n d h) (floor_split n d h)
 
 pub excess_is : (n : ℤ) (d : ℕ) → 0 < d → rem_z n (pos d) +ℤ pos d *ℤ lowered n d ≡ n -ℤ pos d *ℤ floor_div n d
 excess_is n d h = sym (machine_split n d h).is ∙ ap (λ (q : ℤ). n -ℤ pos d *ℤ q) (floor_is n d h)
-
--- the quotient itself fits too
-mag_quot : (n : ℤ) (d : ℕ) → mag (quot_z n (pos d)) ≤ mag n
-mag_quot (pos a) d = div-le_self a d
-mag_quot (negsuc a) d = mag_neg (suc a / d) a (div-le_self (suc a) d)
-  where
-    mag_neg : (r a : ℕ) → r ≤ suc a → mag (neg_ℤ (pos r)) ≤ a
-    mag_neg zero a h = omega arith
-    mag_neg (suc r) a h = omega arith
-
-pub quot_fits : {w : Width} (n : ℤ) (d : ℕ) → SFits w n → SFits w (quot_z n (pos d))
-quot_fits n d f = sfits_le (mag_quot n d) f

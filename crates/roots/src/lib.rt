@@ -3,4 +3,3 @@
 
 pub mod limits;
 pub mod rounding;
-mod wide;

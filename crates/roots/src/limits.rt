@@ -2,27 +2,21 @@
 ghost use Rattle.std.specs.Prelude.{◌≡◌, nat_abs};
 ghost use Rattle.roots.specs.Limit.{is_within};
 
-use super::wide::at_most;
-
 // The magnitude of x, which for the least i64 is 2^63.
 pub fn magnitude(x: i64) -> u64
     ensures { result ≡ nat_abs x }
 {
-    if x < 0 { (-1 - x) as u64 + 1 } else { x as u64 }
+    x.unsigned_abs()
 }
 
-// Whether a * x * x is at most b * l.
+// Whether a * x * x is at most b * l. A left side of more than 128 bits becomes the largest number of 128 bits, which is above every b * l too.
 pub fn within(a: u16, x: i64, b: u16, l: i64) -> bool
     ensures { result ≡ is_within a x b l }
 {
-    let m = magnitude(x);
-    if l < 0 {
-        if b == 0 {
-            at_most(a as u64, m, 0, 0)
-        } else {
-            false
-        }
-    } else {
-        at_most(a as u64, m, b as u64, l as u64)
+    if b > 0 && l < 0 {
+        return false;
     }
+    let m = u128::from(magnitude(x));
+    let limit = u128::from(b) * u128::from(magnitude(l));
+    u128::from(a).saturating_mul(m * m) <= limit
 }

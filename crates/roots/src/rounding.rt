@@ -1,4 +1,5 @@
-// Rounding to even without branches: a comparison becomes 0 or 1, and that number does the choosing.
+// Rounding to even without branches: a comparison becomes 0 or 1, and that number does the choosing. By the same rule nothing here calls the library, whose
+// `clamp`, `div_euclid` and `rem_euclid` stand on branches.
 ghost use Rattle.std.specs.Prelude.{◌≡◌, cond, pos, nat_abs, ◌-ℤ◌, ◌*ℤ◌, ◌≤ℤ◌};
 ghost use Rattle.roots.specs.Round.{divisor, floor_div, round_even};
 

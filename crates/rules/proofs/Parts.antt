@@ -1,19 +1,14 @@
--- A refusal by its parts: the input's number, else 20, else the state's number. First of any two tables with 20 between them, then of a call's; and the
--- input's number where the one test is that of a benchmark's.
+-- A refusal by its parts: the input's number, else 20, else the state's number. First of any two tables with 20 between them, then of a call's.
 use mathlib.Core.Path.{◌≡◌, refl, sym, ap, ◌∙◌}
-use mathlib.Core.Bool.{Bool, true, false, not, cond}
-use mathlib.Core.List.{List, [], ◌∷◌, ◌++◌}
+use mathlib.Core.Bool.{Bool, true, false, cond}
+use mathlib.Core.List.{List, ◌∷◌, ◌++◌}
 use Prim.Native.Nat.{ℕ}
 use lib.Dec.{eqb}
 use borrow.Author.Tests.{ne_eqb}
-use lib.IntN.{ℤ}
-use mir.Syntax.{w64}
-use mir.Val.{SFits}
-use Rattle.numbers.proofs.Machine.{stored, stored_id}
 use Rattle.numbers.specs.Tables.{first_of}
 use Rattle.numbers.proofs.Tables.{numbered, first_append}
 use Rattle.rules.specs.LineState.{LineState}
-use Rattle.rules.specs.Rules.{Call, broken, number_in_range, input_tests, state_tests, book_refusal}
+use Rattle.rules.specs.Rules.{Call, broken, input_tests, state_tests, book_refusal}
 use Rattle.rules.proofs.Tables.{tables}
 
 module _ (is ss : List (ℕ × Bool)) (twenty : Bool) (numbers : numbered is ≡ true) where
@@ -52,7 +47,3 @@ module _ (v : LineState) (c : Call) where
   pub later_refused : (n : ℕ) → first_of (input_tests c) ≡ 0 → n ≡ first_of ((20, broken v c) ∷ state_tests v c) → n ≡ book_refusal v c
   unfolding book_refusal
   later_refused = first_later (input_tests c) (state_tests v c) (broken v c) (tables v c).inputs
-
--- the code's test is made of the number as it is stored
-pub number_refused : (n : ℤ) {r t : Bool} → SFits w64 n → r ≡ number_in_range (stored n) → r ≡ t → first_of ((4, not (number_in_range n)) ∷ []) ≡ cond (not t) 4 0
-number_refused n f e g = ap (λ (b : Bool). cond (not b) 4 0) (sym (e ∙ ap number_in_range (stored_id f)) ∙ g)

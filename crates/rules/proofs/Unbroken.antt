@@ -1,8 +1,10 @@
 -- An unbroken line: what the test of 20 leaves to know of its counts and sums.
+use Rattle.std.specs.declared.option.Option.{Option}
+use Rattle.std.specs.Prelude.{Some, None}
 use mathlib.Core.Path.{◌≡◌, refl, sym, ap, ◌∙◌}
 use mathlib.Core.Bool.{Bool, true, false, not, ◌&&◌, ◌||◌}
 use mathlib.Core.List.{List, [], ◌∷◌}
-use Prim.Native.Nat.{ℕ, zero, suc, ◌≤◌, ◌<◌}
+use Prim.Native.Nat.{ℕ, ◌≤◌, ◌<◌}
 use native.Mathlib.Omega.{arith}
 use lib.Dec.{leb, ltb, eqb, eqb-suc-zero, leb→le, nleb→lt}
 use lib.ListN.{length}
@@ -12,11 +14,11 @@ use Rattle.numbers.specs.Numbers.{within, between}
 use Rattle.numbers.proofs.Tests.{holds, fails, no_true, and_l, and_r, or_l, or_r, not-false}
 use Rattle.numbers.proofs.Sizes.{between_size, within_size}
 use Rattle.adjust.specs.declared.Sections.{Sections}
-use Rattle.adjust.specs.Sections.{sections_from, sections_of, height_in_range}
+use Rattle.adjust.specs.Sections.{sections_of, height_in_range}
+use Rattle.adjust.proofs.Holding.{sections_count}
 use Rattle.adjust.specs.Terms.{terms_of}
 use Rattle.rules.specs.declared.Run.{Run}
-use Rattle.rules.specs.declared.Waiting.{Waiting}
-use Rattle.rules.specs.declared.Waiting.TheVariants.{Nothing, Outward}
+use Rattle.rules.specs.declared.Outward.{Outward}
 use Rattle.rules.specs.declared.Line.{Line}
 use Rattle.rules.specs.code.Bounds.{SmallRun, SmallRuns}
 use Rattle.rules.specs.LineState.{is_fresh, is_closed, is_empty, is_return, run_fits, waiting_broken, misplaced, line_broken, most_g, most_s, most_difference}
@@ -35,14 +37,14 @@ small_run u e =
     }
 
 -- a waiting run is small, and leaves room for its section
-abbrev pub SmallWaiting : Waiting → ℕ → Type 0
-SmallWaiting Nothing count = Unit {0}
-SmallWaiting (Outward number run) count = SmallRun run × (count < 64)
+abbrev pub SmallWaiting : Option Outward → ℕ → Type 0
+SmallWaiting None count = Unit {0}
+SmallWaiting (Some w) count = SmallRun w.run × (count < 64)
 
-small_waiting : (w : Waiting) (count : ℕ) → waiting_broken w count ≡ false → SmallWaiting w count
-small_waiting Nothing count e = tt
-small_waiting (Outward number run) count e =
-    (small_run run (not-false (run_fits run) (or_l (not (run_fits run)) (leb 64 count) e)), nleb→lt 64 count (fails (or_r (not (run_fits run)) (leb 64 count) e)))
+small_waiting : (w : Option Outward) (count : ℕ) → waiting_broken w count ≡ false → SmallWaiting w count
+small_waiting None count e = tt
+small_waiting (Some w) count e =
+    (small_run w.run (not-false (run_fits w.run) (or_l (not (run_fits w.run)) (leb 64 count) e)), nleb→lt 64 count (fails (or_r (not (run_fits w.run)) (leb 64 count) e)))
 
 -- a line beside count sections
 pub record Unbroken (l : Line) (count : ℕ) : Type 0 where
@@ -78,18 +80,17 @@ unbroken l count e =
 pub small_runs : (l : Line) (count : ℕ) → Unbroken l count → SmallRuns l.waiting l.present
 small_runs l count u = go l.waiting u.waiting
   where
-    go : (w : Waiting) → SmallWaiting w count → SmallRuns w l.present
-    go Nothing h = u.present
-    go (Outward number run) h = (h.0, u.present)
+    go : (w : Option Outward) → SmallWaiting w count → SmallRuns w l.present
+    go None h = u.present
+    go (Some w) h = (h.0, u.present)
 
--- no section stands where the arrays count none
-empty_from : (s : Sections) (k n : ℕ) → is_empty (sections_from s k n) ≡ eqb n 0
-unfolding sections_from
-empty_from s k zero = refl
-empty_from s k (suc n) = sym (eqb-suc-zero n)
+-- no section stands where none is counted
+empty_length : {A : Type 0} (xs : List A) → is_empty xs ≡ eqb (length xs) 0
+empty_length [] = refl
+empty_length (x ∷ xs) = sym (eqb-suc-zero (length xs))
 
 pub empty_count : (s : Sections) → is_empty (sections_of s) ≡ eqb s.count 0
-empty_count s = empty_from s 0 s.count
+empty_count s = empty_length (sections_of s) ∙ ap (λ (n : ℕ). eqb n 0) (sections_count s)
 
 -- a list that is not empty has a length above 0
 pub some_long : {A : Type 0} (xs : List A) → is_empty xs ≡ false → ltb 0 (length xs) ≡ true

@@ -9,9 +9,8 @@ use Rattle.roots.specs.Limit.{is_within}
 use Rattle.adjust.specs.declared.terms.Class.{Class}
 use Rattle.adjust.specs.declared.terms.Class.TheVariants.{Third, Fourth, Spur}
 use Rattle.adjust.specs.declared.Section.{Section}
-use Rattle.adjust.specs.Sections.{unnumbered}
 use Rattle.adjust.specs.Terms.{terms_of}
-use Rattle.adjust.specs.Line.{accidental_sum, verdict}
+use Rattle.adjust.specs.Line.{accidental_sum, verdict, verdict_number}
 use Rattle.rules.specs.Rules.{discrepancy_within, length_limit, closure_within}
 
 abbrev classes : {A : Type 0} → (Class → A) → List A
@@ -19,7 +18,7 @@ classes f = f Third ∷ f Fourth ∷ f Spur ∷ []
 
 -- a section of 1 km with the discrepancy d, in half mm
 abbrev kilometre : ℕ → Section
-kilometre d = unnumbered (pos 0) (pos 20000) (pos d)
+kilometre d = record { number = pos 0; height = pos 0; distance = pos 20000; discrepancy = pos d }
 
 -- only third order and spurs are levelled out and back, and only spurs have no known end
 pub ways : classes (λ o. (terms_of o).double) ≡ true ∷ false ∷ true ∷ []
@@ -56,7 +55,9 @@ sums = refl
 
 -- of T within its limit for each section and beyond it, at 19 and at 20 sections
 abbrev verdicts : ℕ → Class → List ℕ
-verdicts most o = verdict (terms_of o) 19 (pos (19 * most + 1)) ∷ verdict (terms_of o) 20 (pos (20 * most)) ∷ verdict (terms_of o) 20 (pos (20 * most + 1)) ∷ []
+verdicts most o =
+    map verdict_number
+    (verdict (terms_of o) 19 (pos (19 * most + 1)) ∷ verdict (terms_of o) 20 (pos (20 * most)) ∷ verdict (terms_of o) 20 (pos (20 * most + 1)) ∷ [])
 
 pub judged : verdicts 3600 Third ∷ verdicts 0 Fourth ∷ verdicts 10000 Spur ∷ [] ≡ (0 ∷ 1 ∷ 2 ∷ []) ∷ (0 ∷ 0 ∷ 0 ∷ []) ∷ (0 ∷ 1 ∷ 2 ∷ []) ∷ []
 judged = refl

@@ -1,5 +1,6 @@
 -- What the rules look at, the state of a line: the counts and sums of document 01's standing list. The plain reading computes them from its lists of stations, a book holds them.
-use Rattle.std.specs.Prelude.{Bool, true, false, not, ◌&&◌, ◌||◌, List, [], ◌∷◌, map, ℕ, ◌+◌, leb, eqb, ℤ, pos, ◌+ℤ◌, ◌-ℤ◌, ◌*ℤ◌}
+use Rattle.std.specs.declared.option.Option.{Option}
+use Rattle.std.specs.Prelude.{Bool, true, false, not, ◌&&◌, ◌||◌, List, [], ◌∷◌, map, ℕ, ◌+◌, leb, eqb, ℤ, pos, ◌+ℤ◌, ◌-ℤ◌, ◌*ℤ◌, Some, None}
 use Rattle.numbers.specs.Numbers.{within, between, eq_z, any_of, last_of}
 use Rattle.station.specs.declared.Figures.{Figures}
 use Rattle.adjust.specs.declared.Section.{Section}
@@ -8,8 +9,7 @@ use Rattle.adjust.specs.Terms.{terms_of}
 use Rattle.rules.specs.declared.Stage.{Stage}
 use Rattle.rules.specs.declared.Stage.TheVariants.{Fresh, Open, Closed}
 use Rattle.rules.specs.declared.Run.{Run}
-use Rattle.rules.specs.declared.Waiting.{Waiting}
-use Rattle.rules.specs.declared.Waiting.TheVariants.{Nothing, Outward}
+use Rattle.rules.specs.declared.Outward.{Outward}
 use Rattle.rules.specs.declared.Line.{Line}
 use Rattle.rules.specs.declared.Book.{Book}
 
@@ -21,14 +21,6 @@ pub record LineState : Type 0 where
 -- what a book holds
 abbrev pub state_of : Book → LineState
 state_of b = record { line = b.line; sections = sections_of b.sections }
-
--- a line and the lists of its sections, which the code is lent one by one, as a book
-abbrev pub book_in : Line → ℕ → List ℤ → List ℤ → List ℤ → List ℤ → Book
-book_in l count ns hs ds es =
-    record { line = l; sections = record { count = count; numbers = ns; heights = hs; distances = ds; discrepancies = es } }
-
-abbrev pub state_in : Line → ℕ → List ℤ → List ℤ → List ℤ → List ℤ → LineState
-state_in l count ns hs ds es = state_of (book_in l count ns hs ds es)
 
 -- the book b holding v in its place
 abbrev pub book_with : Book → LineState → Book
@@ -68,11 +60,11 @@ began v = last_of v.line.opening.start.number (map (λ (x : Section). x.number) 
 
 -- the present run is a return where an outward run waits for one ('waiting'), and an outward run where none does: what is said of it in either case.
 -- Rules 23, 30, 31, 32 and the end of a run all go by this
-abbrev pub outward_or_return : {A : Type 0} → Waiting → A → (ℤ → Run → A) → A
-outward_or_return Nothing outward back = outward
-outward_or_return (Outward number run) outward back = back number run
+abbrev pub outward_or_return : {A : Type 0} → Option Outward → A → (ℤ → Run → A) → A
+outward_or_return None outward back = outward
+outward_or_return (Some w) outward back = back w.number w.run
 
-abbrev pub is_return : Waiting → Bool
+abbrev pub is_return : Option Outward → Bool
 is_return w = outward_or_return w false (λ number run. true)
 
 -- ---- runs and sections
@@ -118,7 +110,7 @@ abbrev pub run_fits : Run → Bool
 run_fits u = leb u.count 200 && within u.height most_g && between (pos u.count) u.sights (pos most_s) && within u.difference most_difference
 
 -- a waiting run beside 64 sections would make the 65th
-abbrev pub waiting_broken : Waiting → ℕ → Bool
+abbrev pub waiting_broken : Option Outward → ℕ → Bool
 waiting_broken w count = outward_or_return w false (λ number run. not (run_fits run) || leb 64 count)
 
 -- a fresh book has nothing in any list, a run waits only where sections are levelled out and back, and a closed line has a section

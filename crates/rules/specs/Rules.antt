@@ -1,6 +1,7 @@
 -- The rules: each call's tests, each beside its refusal number and in the order in which they are made, and what a call that is taken leaves
 -- (document 01, 'Runs, sections and the standing list' and the two lists of refusals; document 02, W-201, W-202 and W-204).
-use Rattle.std.specs.Prelude.{Bool, true, false, not, cond, ◌&&◌, ◌||◌, List, [], ◌∷◌, ◌++◌, ℕ, ◌*◌, ◌%◌, length, leb, eqb, ℤ, pos}
+use Rattle.std.specs.Prelude.{Bool, true, false, not, cond, ◌&&◌, ◌||◌, List, [], ◌∷◌, ◌++◌, ℕ, ◌*◌, ◌%◌, length, leb, eqb, ℤ, pos, Some, None}
+use Rattle.std.specs.declared.option.Option.{Option}
 use Rattle.std.specs.Int.Signed.{le_z, lt_z}
 use Rattle.numbers.specs.Numbers.{between, eq_z}
 use Rattle.numbers.specs.Tables.{first_of}
@@ -23,8 +24,7 @@ use Rattle.adjust.specs.Terms.{order_of, terms_of}
 use Rattle.adjust.specs.Line.{quarters, totals}
 use Rattle.rules.specs.declared.Stage.TheVariants.{Open, Closed}
 use Rattle.rules.specs.declared.Run.{Run}
-use Rattle.rules.specs.declared.Waiting.{Waiting}
-use Rattle.rules.specs.declared.Waiting.TheVariants.{Nothing, Outward}
+use Rattle.rules.specs.declared.Outward.{Outward}
 use Rattle.rules.specs.declared.Line.{Line}
 use Rattle.rules.specs.LineState.{LineState, is_fresh, is_open, is_closed, is_empty, on_line, is_shut, began, outward_or_return, is_return, no_run, with_station, one_way, both_ways, line_broken}
 
@@ -192,7 +192,7 @@ rank n = cond (eqb n 31) 299 (cond (eqb n 41 || eqb n 45 || eqb n 46) 211 (cond 
 -- ---- what a call that is taken leaves
 
 -- the line with other runs
-abbrev pub with_runs : Line → Waiting → Run → Line
+abbrev pub with_runs : Line → Option Outward → Run → Line
 with_runs l waiting present =
     record {
       stage = l.stage;
@@ -203,20 +203,20 @@ with_runs l waiting present =
     }
 
 abbrev pub with_section : LineState → Section → LineState
-with_section v x = record { line = with_runs v.line Nothing no_run; sections = v.sections ++ (x ∷ []) }
+with_section v x = record { line = with_runs v.line None no_run; sections = v.sections ++ (x ∷ []) }
 
 -- a return finishes the section, under the waiting number; an outward run waits, or is a section where sections are levelled one way
 abbrev pub run_ended : LineState → ℤ → LineState
 run_ended v number =
     outward_or_return v.line.waiting
     (cond (terms_of v.line.opening.class).double
-    (record { line = with_runs v.line (Outward number v.line.present) no_run; sections = v.sections })
+    (record { line = with_runs v.line (Some (record { number = number; run = v.line.present })) no_run; sections = v.sections })
     (with_section v (one_way number v.line.present)))
     (λ outward run. with_section v (both_ways outward run v.line.present))
 
 -- an open line with nothing in it
 abbrev pub begun : Opening → Line
-begun o = record { stage = Open; opening = o; end = pos 0; waiting = Nothing; present = no_run }
+begun o = record { stage = Open; opening = o; end = pos 0; waiting = None; present = no_run }
 
 abbrev pub opening_of : Class → ℤ → ℤ → ℤ → Opening
 opening_of class instrument number height =
@@ -254,7 +254,7 @@ taken v (station kb kf readings) =
     }
 taken v (end_run number) = run_ended v number
 taken v drop_run = record { line = with_runs v.line v.line.waiting no_run; sections = v.sections }
-taken v drop_section = record { line = with_runs v.line Nothing no_run; sections = v.sections }
+taken v drop_section = record { line = with_runs v.line None no_run; sections = v.sections }
 taken v (close_line number end) = record { line = closed_at v.line end; sections = v.sections }
 taken v (open_spur order instrument number height) = record { line = begun (opening_of Spur instrument number height); sections = [] }
 -- a spur has no end height: 0 stands for it

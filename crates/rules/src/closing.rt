@@ -1,184 +1,130 @@
-// The refusals of closing.
+// The refusals of closing, and of asking for the figures of a closed line.
 ghost use Rattle.std.specs.Prelude.{◌≡◌, true, false, ◌≤◌};
 ghost use Rattle.numbers.specs.Tables.{first_of};
+ghost use Rattle.records.specs.Refusals.{number_of};
 ghost use Rattle.adjust.specs.Sections.{sections_of, height_in_range};
 ghost use Rattle.adjust.specs.Frames.{figures_fit};
-ghost use Rattle.rules.specs.LineState.{state_in, is_shut};
-ghost use Rattle.rules.specs.code.Seen.{numbers_in};
-ghost use Rattle.rules.specs.Rules.{close_line, close_spur, close_tests, broken, length_limit, total_tests, line_tests, figures_tests, input_tests, state_tests, book_refusal};
+ghost use Rattle.rules.specs.LineState.{state_of, is_shut};
+ghost use Rattle.rules.specs.code.Closed.{closing_on, close_input_tests};
+ghost use Rattle.rules.specs.Rules.{close_line, close_tests, length_limit, total_tests, line_tests, state_tests, figures_tests, broken_in, book_refusal};
 
-use super::Line;
-use super::broken::{line_broken, look};
-use super::position::{began_at, is_closed, is_open, is_return};
-use super::refusals::number_in_range;
+use super::broken::line_broken;
+use super::position::{began, is_shut};
+use super::refusals::check_number;
+use super::{Book, Stage};
+use adjust::Totals;
 use adjust::terms::{Terms, terms_of};
-use adjust::{LineTotals, Sections, Totals};
+use records::Refusal;
 use roots::limits::within;
-use station::pick;
 
 // The longest line, or the longest loop, in half dm.
-fn length_limit(terms: Terms, shut: bool) -> i64
-    ensures { result ≡ length_limit terms shut }
+fn length_limit(terms: &Terms, shut: bool) -> i64
+    ensures { result ≡ length_limit terms.now shut }
 {
     if shut { terms.circuit } else { terms.longest }
 }
 
-fn close_input(number: i64, end: i64) -> u8
-    ensures { result ≡ first_of (input_tests (close_line number end)) }
+// Of the last number and the end height, which a spur has not.
+fn check_input(number: i64, end: Option<i64>) -> Result<(), Refusal>
+    ensures { number_of result ≡ first_of (close_input_tests number end) }
 {
-    let five = pick(!adjust::height_in_range(end), 5, 0);
-    pick(!number_in_range(number), 4, five)
+    check_number(number)?;
+    match end {
+        Some(height) if !adjust::height_in_range(height) => Err(Refusal::KnownHeight),
+        _ => Ok(()),
+    }
 }
 
-// The refusal of a line by its length and its closure: 35 or 36, or 0.
-fn limit_refusal(terms: Terms, shut: bool, t: Totals) -> u8
-    ensures { result ≡ first_of (total_tests terms shut t) }
+// A line by its length and its closure.
+fn check_totals(terms: &Terms, shut: bool, t: &Totals) -> Result<(), Refusal>
+    ensures { number_of result ≡ first_of (total_tests terms.now shut t.now) }
 {
-    let limit = length_limit(terms, shut);
+    if length_limit(terms, shut) < t.distance {
+        return Err(Refusal::LineLength);
+    }
     let root = terms.closing;
-    let w = pick(!within(root.a, t.closure, root.b, t.distance), 36, 0);
-    pick(!(t.distance <= limit), 35, w)
+    if !within(root.a, t.closure, root.b, t.distance) {
+        return Err(Refusal::Closure);
+    }
+    Ok(())
 }
 
-// The same of a line with sections. There are totals, since the figures fit.
-fn line_refusal(line: Line, sections: Sections, end: i64, shut: bool) -> u8
-    requires { (figures_fit line.opening.start.height end (sections_of sections) ≡ true) × (shut ≡ is_shut (record { line = line; sections = sections_of sections })) }
-    ensures { result ≡ first_of (line_tests (record { line = line; sections = sections_of sections }) end) }
+// The same of a book with sections, up to the known height at its end. There are totals, since the figures fit.
+fn check_line(b: &Book, end: i64, shut: bool) -> Result<(), Refusal>
+    requires { (b.now.sections.count ≤ 64) × ((figures_fit b.now.line.opening.start.height end (sections_of b.now.sections) ≡ true) × (shut ≡ is_shut (state_of b.now))) }
+    ensures { number_of result ≡ first_of (line_tests (state_of b.now) end) }
 {
-    let opening = line.opening;
-    let class = opening.class;
-    let terms = terms_of(class);
-    let answer = adjust::totals_of(line.opening.start.height, end, sections);
-    match answer {
-        LineTotals::Totalled(t) => limit_refusal(terms, shut, t),
-        LineTotals::NotTotalled => 20,
+    let opening = &b.line.opening;
+    match adjust::totals_of(opening.start.height, end, b.sections.listed()) {
+        Some(t) => check_totals(&terms_of(opening.class), shut, &t),
+        None => Err(Refusal::Broken),
     }
 }
 
-// The refusal of a closing by END or by FIN, up to 34.
-fn closing_state(
-    line: Line,
-    count: usize,
-    numbers: &[i64; 64],
-    other: bool,
-    number: i64,
-    unlike: bool,
-) -> u8
-    requires { count ≤ 64 }
-    ensures { result ≡ first_of (close_tests (numbers_in line count numbers.now) other number unlike) }
+// Of a closing by END or by FIN, up to 34.
+fn check_place(b: &Book, other: bool, number: i64, unlike: bool) -> Result<(), Refusal>
+    requires { b.now.sections.count ≤ 64 }
+    ensures { number_of result ≡ first_of (close_tests (state_of b.now) other number unlike) }
 {
-    let stage = line.stage;
-    let waiting = line.waiting;
-    let began = began_at(line.opening.start.number, count, numbers);
-    let place = pick(!(number == began) | unlike, 34, 0);
-    let ready = pick(
-        !(line.present.count == 0) | is_return(waiting) | (count == 0),
-        33,
-        place,
-    );
-    let kind = pick(other, 41, ready);
-    pick(!is_open(stage), 21, kind)
+    let line = &b.line;
+    if line.stage != Stage::Open {
+        return Err(Refusal::Stage);
+    }
+    if other {
+        return Err(Refusal::ClosingKind);
+    }
+    if line.present.count != 0 || line.waiting.is_some() || b.sections.count == 0 {
+        return Err(Refusal::Unfinished);
+    }
+    if number != began(b) || unlike {
+        return Err(Refusal::ClosingBenchmark);
+    }
+    Ok(())
 }
 
-fn close_state<'a>(
-    line: Line,
-    count: usize,
-    numbers: &'a [i64; 64],
-    heights: &'a [i64; 64],
-    distances: &'a [i64; 64],
-    discrepancies: &'a [i64; 64],
-    shut: bool,
-    number: i64,
-    end: i64,
-) -> u8
-    requires { ((broken (state_in line count numbers.now heights.now distances.now discrepancies.now) (close_line number end) ≡ false)
-        × (shut ≡ is_shut (state_in line count numbers.now heights.now distances.now discrepancies.now))) × (height_in_range end ≡ true) }
-    ensures { result ≡ first_of (state_tests (state_in line count numbers.now heights.now distances.now discrepancies.now) (close_line number end)) }
+// Refusal 20 of a book all of whose sections are read.
+fn is_broken(b: &Book) -> bool
+    ensures { result ≡ broken_in true (state_of b.now) }
 {
-    let opening = line.opening;
-    let class = opening.class;
-    let terms = terms_of(class);
-    let unlike = shut & !(end == line.opening.start.height);
-    let code = closing_state(line, count, numbers, !terms.tied, number, unlike);
-    if code != 0 {
-        return code;
-    }
-    // a closing is made once a line: its sections may be copied
-    let sections = Sections {
-        count: count,
-        numbers: *numbers,
-        heights: *heights,
-        distances: *distances,
-        discrepancies: *discrepancies,
-    };
-    line_refusal(line, sections, end, shut)
+    b.sections.misfit() || line_broken(b)
 }
 
-pub fn close_refusal<'a>(
-    line: Line,
-    count: usize,
-    numbers: &'a [i64; 64],
-    heights: &'a [i64; 64],
-    distances: &'a [i64; 64],
-    discrepancies: &'a [i64; 64],
-    number: i64,
-    end: i64,
-) -> u8
-    ensures { result ≡ book_refusal (state_in line count numbers.now heights.now distances.now discrepancies.now) (close_line number end) }
+// What the state of a book that is not broken causes to closing it on a known height.
+fn check_known_end(b: &Book, number: i64, height: i64) -> Result<(), Refusal>
+    requires { (broken_in true (state_of b.now) ≡ false) × (height_in_range height ≡ true) }
+    ensures { number_of result ≡ first_of (state_tests (state_of b.now) (close_line number height)) }
 {
-    let input = close_input(number, end);
-    if input != 0 {
-        return input;
-    }
-    let misfit = adjust::table::misfits(count, heights, distances, discrepancies);
-    let seen = look(line, count, numbers);
-    if misfit | seen.broken {
-        return 20;
-    }
-    close_state(
-        line,
-        count,
-        numbers,
-        heights,
-        distances,
-        discrepancies,
-        seen.shut,
-        number,
-        end,
-    )
+    let opening = &b.line.opening;
+    let shut = is_shut(b);
+    let terms = terms_of(opening.class);
+    let unlike = shut & (height != opening.start.height);
+    check_place(b, !terms.tied, number, unlike)?;
+    check_line(b, height, shut)
 }
 
-// Of a spur, which has no known end: 4, 20, 21, 41, 33 or 34, or 0.
-pub fn close_spur_refusal<'a>(
-    line: Line,
-    count: usize,
-    numbers: &'a [i64; 64],
-    heights: &'a [i64; 64],
-    distances: &'a [i64; 64],
-    discrepancies: &'a [i64; 64],
-    number: i64,
-) -> u8
-    ensures { result ≡ book_refusal (state_in line count numbers.now heights.now distances.now discrepancies.now) (close_spur number) }
+// Of closing on a number, and on a known height where the line is no spur.
+#[tactic(auto, unfolding(crate::specs::Rules::book_refusal))]
+pub fn check_close(b: &Book, number: i64, end: Option<i64>) -> Result<(), Refusal>
+    ensures { number_of result ≡ book_refusal (state_of b.now) (closing_on number end) }
 {
-    if !number_in_range(number) {
-        return 4;
+    check_input(number, end)?;
+    if is_broken(b) {
+        return Err(Refusal::Broken);
     }
-    let misfit = adjust::table::misfits(count, heights, distances, discrepancies);
-    if misfit | line_broken(line, count) {
-        return 20;
+    match end {
+        Some(height) => check_known_end(b, number, height),
+        None => check_place(b, terms_of(b.line.opening.class).tied, number, false),
     }
-    let opening = line.opening;
-    let class = opening.class;
-    let terms = terms_of(class);
-    closing_state(line, count, numbers, terms.tied, number, false)
 }
 
-// The refusal of asking for the figures of a closed line: 20 or 21, or 0.
-pub fn figures_refusal(line: Line, s: Sections) -> u8
-    ensures { result ≡ first_of (figures_tests (record { line = line; sections = sections_of s })) }
+pub fn check_figures(b: &Book) -> Result<(), Refusal>
+    ensures { number_of result ≡ first_of (figures_tests (state_of b.now)) }
 {
-    let stage = line.stage;
-    let misfit = adjust::table::misfits(s.count, &s.heights, &s.distances, &s.discrepancies);
-    let shut = pick(!is_closed(stage), 21, 0);
-    pick(misfit | line_broken(line, s.count), 20, shut)
+    if is_broken(b) {
+        return Err(Refusal::Broken);
+    }
+    if b.line.stage != Stage::Closed {
+        return Err(Refusal::Stage);
+    }
+    Ok(())
 }

@@ -3,12 +3,13 @@
 
 use adjust::{Opening, Sections};
 
-pub mod broken;
+mod broken;
 pub mod closing;
-pub mod position;
+pub mod opening;
+mod position;
 pub mod refusals;
 
-#[derive(Clone, Copy)]
+#[derive(Clone, Copy, PartialEq, Eq)]
 pub enum Stage {
     Fresh,
     Open,
@@ -16,7 +17,8 @@ pub enum Stage {
 }
 
 // A run: how many stations, G in half mm, s in dm, the sum of d in dm, and the constant of the last fore staff, 0 for none.
-#[derive(Clone, Copy)]
+// `last` is no Option: where the count is 0 nothing asks for it.
+#[derive(Clone, Copy, Default, PartialEq, Eq)]
 pub struct Run {
     pub count: usize,
     pub height: i64,
@@ -25,20 +27,20 @@ pub struct Run {
     pub last: i64,
 }
 
-// What waits for its return: nothing, or an outward run and the number that it ended on.
+// An outward run that waits for its return, and the number that it ended on.
 #[derive(Clone, Copy)]
-pub enum Waiting {
-    Nothing,
-    Outward(i64, Run),
+pub struct Outward {
+    pub number: i64,
+    pub run: Run,
 }
 
-// All of a line but its finished sections. The end height is 0 until the line is closed, and on a spur.
+// All of a line but its finished sections. The end height is 0 until the line is closed, and on a spur: no Option, since the stage and the class say which.
 #[derive(Clone, Copy)]
 pub struct Line {
     pub stage: Stage,
     pub opening: Opening,
     pub end: i64,
-    pub waiting: Waiting,
+    pub waiting: Option<Outward>,
     pub present: Run,
 }
 

@@ -1,73 +1,47 @@
-// Where the line stands: its stage, whether the present run is a return, the benchmarks on it.
-ghost use Rattle.std.specs.Prelude.{◌≡◌, map, ◌≤◌, length};
-ghost use Rattle.numbers.specs.Numbers.{last_of};
-ghost use Rattle.adjust.specs.declared.Section.{Section};
-ghost use Rattle.adjust.specs.Sections.{sections_of};
-ghost use Rattle.rules.specs.LineState.{is_fresh, is_open, is_closed, is_return};
-ghost use Rattle.rules.specs.code.Seen.{numbered, is_among};
+// The benchmarks on a line.
+ghost use Rattle.std.specs.Prelude.{◌≡◌, map, ◌≤◌};
+ghost use Rattle.numbers.specs.Numbers.{eq_z, any_of, last_of};
+ghost use Rattle.adjust.specs.declared.Section.{Section as ListedSection};
+ghost use Rattle.rules.specs.LineState.{state_of, on_line, is_shut, began};
 
-use super::{Stage, Waiting};
+use super::Book;
+use adjust::Section;
 
-pub(crate) fn is_fresh(stage: Stage) -> bool
-    ensures { result ≡ is_fresh stage }
+fn is_among(sections: &[Section], number: i64) -> bool
+    ensures { result ≡ any_of (λ (x : ListedSection). eq_z x.number number) sections.now }
 {
-    match stage {
-        Stage::Fresh => true,
-        Stage::Open => false,
-        Stage::Closed => false,
+    sections.iter().any(|section| section.number == number)
+}
+
+fn last_number(sections: &[Section], start: i64) -> i64
+    ensures { result ≡ last_of start (map (λ (x : ListedSection). x.number) sections.now) }
+{
+    match sections.last() {
+        Some(section) => section.number,
+        None => start,
     }
 }
 
-pub(crate) fn is_open(stage: Stage) -> bool
-    ensures { result ≡ is_open stage }
+// Whether a finished section ends on the benchmark.
+pub(crate) fn on_line(b: &Book, number: i64) -> bool
+    requires { b.now.sections.count ≤ 64 }
+    ensures { result ≡ on_line (state_of b.now) number }
 {
-    match stage {
-        Stage::Fresh => false,
-        Stage::Open => true,
-        Stage::Closed => false,
-    }
+    is_among(b.sections.listed(), number)
 }
 
-pub fn is_closed(stage: Stage) -> bool
-    ensures { result ≡ is_closed stage }
+// Whether one ends on the start.
+pub(crate) fn is_shut(b: &Book) -> bool
+    requires { b.now.sections.count ≤ 64 }
+    ensures { result ≡ is_shut (state_of b.now) }
 {
-    match stage {
-        Stage::Fresh => false,
-        Stage::Open => false,
-        Stage::Closed => true,
-    }
-}
-
-pub(crate) fn is_return(waiting: Waiting) -> bool
-    ensures { result ≡ is_return waiting }
-{
-    match waiting {
-        Waiting::Nothing => false,
-        Waiting::Outward(_, _) => true,
-    }
-}
-
-// Whether this is one of the first count numbers.
-pub(crate) fn on_line(numbers: &[i64], count: usize, number: i64) -> bool
-    requires { count ≤ length numbers.now }
-    ensures { result ≡ is_among count numbers.now number }
-{
-    for k in 0..count {
-        if numbers[k] == number {
-            return true;
-        }
-    }
-    false
+    on_line(b, b.line.opening.start.number)
 }
 
 // The benchmark where the present section began.
-pub(crate) fn began_at(start: i64, count: usize, numbers: &[i64; 64]) -> i64
-    requires { count ≤ 64 }
-    ensures { result ≡ last_of start (map (λ (x : Section). x.number) (sections_of (numbered count numbers.now))) }
+pub(crate) fn began(b: &Book) -> i64
+    requires { b.now.sections.count ≤ 64 }
+    ensures { result ≡ began (state_of b.now) }
 {
-    if count == 0 {
-        return start;
-    }
-    let last = count - 1;
-    numbers[last]
+    last_number(b.sections.listed(), b.line.opening.start.number)
 }

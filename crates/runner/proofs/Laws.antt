@@ -1,44 +1,87 @@
--- Laws of entries in lists of numbers, and of numbers that are stored one by one.
+-- Laws of entries in lists of numbers, of numbers that are stored one by one, and of the figures of a book.
 use mathlib.Core.Path.{◌≡◌, refl, sym, ap, subst, ◌∙◌}
-use mathlib.Core.List.{List, [], ◌∷◌}
-use Prim.Native.Nat.{ℕ, zero, suc, ◌+◌, ◌-◌, ◌*◌, ◌≤◌, ◌<◌}
+use mathlib.Core.Bool.{not, cond}
+use mathlib.Core.List.{List, [], ◌∷◌, ◌++◌, append-nil}
+use Prim.Native.Nat.{ℕ, zero, suc, ◌+◌, ◌/◌, ◌%◌, ◌≤◌, ◌<◌, min}
 use native.Mathlib.Omega.{arith}
-use lib.ListN.{length, set, drop}
-use lib.Seq.{drop-drop, sets}
+use borrow.Author.Tests.{le-leb}
+use lib.Dec.{eqb, leb}
+use lib.ListN.{length, set, take, drop, length-append, length-take, drop_of_length-le}
+use lib.Seq.{take_all, take_at, drop_at, sets}
 use lib.IntN.{ℤ}
+use Rattle.std.proofs.Common.{inl, inr, Err}
+use Rattle.std.proofs.lemmas.Bool.{cases_lt}
+use Rattle.std.proofs.lemmas.List.{nil_from_length}
 use Rattle.numbers.specs.Numbers.{written}
 use Rattle.numbers.proofs.Arrays.{written_none}
+use Rattle.records.specs.declared.Refusal.TheVariants.{NotARecord}
 use Rattle.adjust.specs.Sections.{holding}
+use Rattle.adjust.specs.Frames.{adjusted_of}
 use Rattle.rules.specs.declared.Book.{Book}
-use Rattle.ledger.specs.Plain.{fresh_reading, plain_state}
-use Rattle.ledger.specs.Entries.{Entry, after_entries}
+use Rattle.rules.specs.LineState.{is_closed}
+use Rattle.rules.specs.declared.Stage.TheVariants.{Closed}
+use Rattle.book.specs.Calls.{closing_of, figures_refusal}
+use Rattle.ledger.specs.Plain.{Reading, fresh_reading, plain_state, figures_of}
+use Rattle.ledger.specs.Entries.{Entry, entry_of, after_entries}
 use Rattle.ledger.proofs.Kept.{Kept, fresh_kept}
-use Rattle.ledger.proofs.Again.{book_of}
+use Rattle.ledger.proofs.Again.{book_of, held, figures_number}
 use Rattle.ledger.proofs.Entries.{entries_kept}
-use Rattle.runner.specs.Calls.{first_entry, first_entries}
+use Rattle.runner.specs.Calls.{kind_of, record_with, first_record, first_entry, first_entries, entries_of}
+use Rattle.runner.specs.Figures.{no_figures, told}
 
 -- ---- entries
 
-pub entries_long : (n : ℕ) (xs : List ℤ) → length (first_entries n xs) ≡ n
+entries_long : (n : ℕ) (xs : List ℤ) → length (first_entries n xs) ≡ n
 unfolding first_entries
 entries_long zero xs = refl
 entries_long (suc n) xs = ap suc (entries_long n (drop 11 xs))
 
--- those of n entries that are left after k of them
-abbrev pub left : ℕ → ℕ → List ℤ → List Entry
-left n k xs = first_entries (n - k) (drop (k * 11) xs)
+-- as `div_ceil` counts them
+pub count_long : (xs : List ℤ) → length xs / 11 + min 1 (length xs % 11) ≡ length (entries_of xs)
+count_long xs = let whole : length xs / 11 + min 1 (length xs % 11) ≡ (length xs + 10) / 11 = omega arith in whole ∙ sym (entries_long ((length xs + 10) / 11) xs)
 
-pub left_next : (n k : ℕ) (xs : List ℤ) → k < n → left n k xs ≡ first_entry (drop (k * 11) xs) ∷ left n (k + 1) xs
-unfolding first_entries
-left_next n k xs h =
-    let more : n - k ≡ suc (n - (k + 1)) = omega arith in
-    let place : k * 11 + 11 ≡ (k + 1) * 11 = omega arith in
-    ap (λ (m : ℕ). first_entries m (drop (k * 11) xs)) more
-    ∙ ap (λ (ys : List ℤ). first_entry (drop (k * 11) xs) ∷ first_entries (n - (k + 1)) ys) (drop-drop 11 (k * 11) xs ∙ ap (λ (m : ℕ). drop m xs) place)
+-- the first n elements of a list, or all where it is shorter, and the others
+chunk_parts : {A : Type 0} (n : ℕ) (all chunk rest : List A) → all ≡ chunk ++ rest → length chunk ≡ min n (length all) → (take n all ≡ chunk) × (drop n all ≡ rest)
+chunk_parts {A} n all chunk rest parts size =
+    let sum = ap length parts ∙ length-append chunk rest in
+    elim (cases_lt (length all) n) [
+      | inl short ↦
+          let none : rest ≡ [] = nil_from_length rest (omega arith) in
+          (take_all n all (omega arith) ∙ parts ∙ ap (λ (r : List A). chunk ++ r) none ∙ append-nil chunk, drop_of_length-le all (omega arith) ∙ sym none)
+      | inr long ↦
+          let whole : length chunk ≡ n = omega arith in
+          (ap (take n) parts ∙ take_at chunk rest n whole, ap (drop n) parts ∙ drop_at chunk rest n whole)
+    ]
 
-pub left_done : (n k : ℕ) (xs : List ℤ) → n ≤ k → left n k xs ≡ []
+-- an entry is read from eleven numbers
+leb_take : (n : ℕ) (xs : List ℤ) → leb n (length (take n xs)) ≡ leb n (length xs)
+leb_take n xs =
+    elim (cases_lt (length xs) n) [
+      | inl short ↦ ap (λ (ys : List ℤ). leb n (length ys)) (take_all n xs (omega arith))
+      | inr long ↦ le-leb n (length (take n xs)) (omega (arith, length-take n xs)) ∙ sym (le-leb n (length xs) long)
+    ]
+
+first_take : (xs : List ℤ) → first_record (take 11 xs) ≡ first_record xs
+unfolding first_record
+first_take [] = refl
+first_take (x ∷ xs) =
+    λ i. cond (leb_take 11 (x ∷ xs) i) (record_with (kind_of x) (take_all 10 (take 10 xs) (omega (arith, length-take 10 xs)) i)) (Err NotARecord)
+
+count_next : (all chunk rest : ℕ) → all ≡ chunk + rest → chunk ≡ min 11 all → 0 < all → (all + 10) / 11 ≡ suc ((rest + 10) / 11)
+count_next all chunk rest parts size some = omega arith
+
+-- the entry that comes off the front
+pub entries_chunk : (all entry rest : List ℤ) → all ≡ entry ++ rest → length entry ≡ min 11 (length all) → 0 < length all
+    → entries_of all ≡ first_entry entry ∷ entries_of rest
 unfolding first_entries
-left_done n k xs h = let none : n - k ≡ 0 = omega arith in ap (λ (m : ℕ). first_entries m (drop (k * 11) xs)) none
+entries_chunk all entry rest parts size some =
+    let p = chunk_parts 11 all entry rest parts size in
+    ap (λ (n : ℕ). first_entries n all) (count_next (length all) (length entry) (length rest) (ap length parts ∙ length-append entry rest) size some)
+    ∙ (λ i. entry_of ((sym (first_take all) ∙ ap first_record p.0) i) ∷ first_entries ((length rest + 10) / 11) (p.1 i))
+
+pub entries_none : (xs : List ℤ) → length xs ≡ 0 → entries_of xs ≡ []
+unfolding first_entries
+entries_none xs h = ap entries_of (nil_from_length xs h)
 
 -- ---- stores
 
@@ -57,7 +100,7 @@ module _ {A : Type 0} where
   stores_written (x ∷ xs) [] = stores_none 1 xs
   stores_written (x ∷ xs) (y ∷ ys) = stores_later x ys 0 xs ∙ ap (λ (l : List A). x ∷ l) (stores_written xs ys)
 
--- ---- counts that fit
+-- ---- the figures of a book
 
 -- of a book that entries left
 pub few_left : (es : List Entry) {b : Book} → b ≡ book_of (after_entries fresh_reading es) → (b.line.present.count ≤ 200) × (b.sections.count ≤ 64)
@@ -65,3 +108,9 @@ unfolding holding
 few_left es e =
     let k : Kept (plain_state (after_entries fresh_reading es)) = entries_kept fresh_reading fresh_kept es in
     subst (λ (b : Book). (b.line.present.count ≤ 200) × (b.sections.count ≤ 64)) (sym e) (k.present.count, k.few)
+
+-- of one whose line is closed
+pub told_closed : (r : Reading) → Kept (plain_state r) → r.stage ≡ Closed → told (book_of r) ≡ adjusted_of (figures_of r)
+told_closed r k closed =
+    let number : figures_refusal (book_of r) ≡ 0 = figures_number r k refl ∙ (λ i. cond (not (is_closed (closed i))) 21 0) in
+    λ i. cond (eqb (number i) 0) (adjusted_of (closing_of (held r refl i))) no_figures

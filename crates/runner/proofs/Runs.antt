@@ -2,20 +2,21 @@
 use mathlib.Core.Path.{◌≡◌, sym, ap, ◌∙◌}
 use mathlib.Core.List.{◌++◌}
 use lib.ListN.{length}
+use Rattle.adjust.specs.declared.LineFigures.{LineFigures}
+use Rattle.adjust.specs.Frames.{adjusted_of}
 use Rattle.adjust.specs.Sections.{holding}
 use Rattle.rules.specs.declared.Stage.TheVariants.{Closed}
-use Rattle.book.specs.declared.ClosedFigures.{ClosedFigures}
-use Rattle.book.specs.Calls.{close_figures, figures_of}
 use Rattle.ledger.specs.Plain.{Reading, fresh_reading, after}
 use Rattle.ledger.specs.Entries.{calls_of}
 use Rattle.ledger.proofs.Kept.{calls_kept}
 use Rattle.ledger.proofs.Every.{every_list, same_figures}
-use Rattle.ledger.proofs.Again.{book_of, figures_again}
+use Rattle.ledger.proofs.Again.{book_of}
 use Rattle.ledger.proofs.Entries.{reading_calls, numbers_calls}
 use Rattle.ledger.proofs.Traced.{every_trace}
 use Rattle.runner.specs.Calls.{entries_of}
-use Rattle.runner.specs.Figures.{summary_of, head_figures, point_figures}
+use Rattle.runner.specs.Figures.{told, head_figures, point_figures}
 use Rattle.runner.specs.Claims.{state_after, EveryRun, RunAsMade}
+use Rattle.runner.proofs.Laws.{told_closed}
 
 pub every_run : EveryRun
 unfolding holding
@@ -23,11 +24,11 @@ every_run xs shut =
     let calls = calls_of (entries_of xs) in
     let same = reading_calls fresh_reading (entries_of xs) in
     let closed : (after fresh_reading calls).stage ≡ Closed = ap (λ (r : Reading). r.stage) (sym same) ∙ shut in
-    let again = ap (λ (r : Reading). figures_of (book_of r)) same ∙ figures_again (after fresh_reading calls) (calls_kept calls) closed ∙ ap (close_figures 0) (same_figures calls closed) in
+    let again = ap (λ (r : Reading). told (book_of r)) same ∙ told_closed (after fresh_reading calls) (calls_kept calls) closed ∙ ap adjusted_of (same_figures (every_list calls closed)) in
     record {
       closing = every_list calls closed;
       figures =
-          ap (λ (f : ClosedFigures). head_figures (summary_of f.answer) (state_after xs).line.present (length (state_after xs).sections) ++ point_figures f.points) again;
+          ap (λ (f : LineFigures). head_figures f.summary (state_after xs).line.present (length (state_after xs).sections) ++ point_figures f.points) again;
     }
 
 pub run_as_made : RunAsMade

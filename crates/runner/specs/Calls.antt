@@ -1,30 +1,42 @@
 -- Entries of a book in a list of numbers, 11 an entry: a kind, then the ten numbers of its record (`call_of` of rules/specs/Records.antt). What is not so
 -- is refused with 1, as a line of a text that is no record is.
-use Rattle.std.specs.Prelude.{◌≡◌, refl, cond, List, [], ◌∷◌, ◌++◌, ℕ, zero, suc, ◌+◌, ◌/◌, leb, length, get_or, take, drop, ℤ, pos, negsuc}
+use Rattle.std.specs.Prelude.{◌≡◌, refl, cond, List, [], ◌∷◌, ◌++◌, ℕ, zero, suc, ◌+◌, ◌/◌, leb, length, get_or, take, drop, ℤ, pos, negsuc, Some, None, Ok, Err}
 use Rattle.numbers.specs.Numbers.{eq_z, written}
-use Rattle.records.specs.declared.Kind.{Kind}
-use Rattle.records.specs.declared.Kind.TheVariants.{Record, Refused}
+use Rattle.std.specs.declared.option.Option.{Option}
+use Rattle.std.specs.declared.result.Result.{Result}
+use Rattle.records.specs.declared.Record.{Record}
+use Rattle.records.specs.declared.Refusal.{Refusal}
+use Rattle.records.specs.declared.Refusal.TheVariants.{NotARecord}
+use Rattle.records.specs.declared.Tag.{Tag}
 use Rattle.records.specs.declared.Tag.TheVariants.{Lin, Sta, Run, Drr, Drs, End, Spr, Fin, Ang}
 use Rattle.rules.specs.Rules.{open_line, station, close_line, open_spur, close_spur, collimation}
 use Rattle.ledger.specs.Entries.{Entry, asks, refused, entry_of}
 
--- the record of a kind
-unfoldable pub kind_of : ℤ → Kind
+-- the tag of a kind
+unfoldable pub kind_of : ℤ → Option Tag
 kind_of k =
-    cond (eq_z k (pos 1)) (Record Lin)
-    (cond (eq_z k (pos 2)) (Record Sta)
-    (cond (eq_z k (pos 3)) (Record Run)
-    (cond (eq_z k (pos 4)) (Record Drr)
-    (cond (eq_z k (pos 5)) (Record Drs)
-    (cond (eq_z k (pos 6)) (Record End)
-    (cond (eq_z k (pos 7)) (Record Spr)
-    (cond (eq_z k (pos 8)) (Record Fin)
-    (cond (eq_z k (pos 9)) (Record Ang)
-    (Refused 1)))))))))
+    cond (eq_z k (pos 1)) (Some Lin)
+    (cond (eq_z k (pos 2)) (Some Sta)
+    (cond (eq_z k (pos 3)) (Some Run)
+    (cond (eq_z k (pos 4)) (Some Drr)
+    (cond (eq_z k (pos 5)) (Some Drs)
+    (cond (eq_z k (pos 6)) (Some End)
+    (cond (eq_z k (pos 7)) (Some Spr)
+    (cond (eq_z k (pos 8)) (Some Fin)
+    (cond (eq_z k (pos 9)) (Some Ang)
+    None))))))))
 
--- the first entry of a list, refused where the list is too short for it
-unfoldable pub first_entry : List ℤ → Entry
-first_entry xs = cond (leb 11 (length xs)) (entry_of (kind_of (get_or xs 0 (pos 0))) (take 10 (drop 1 xs))) (refused 1)
+-- a record of this tag with the numbers v; without a tag there is none
+abbrev pub record_with : Option Tag → List ℤ → Result Record Refusal
+record_with (Some t) v = Ok (record { tag = t; values = v })
+record_with None v = Err NotARecord
+
+-- the first record of a list, refused where the list is too short for it
+unfoldable pub first_record : List ℤ → Result Record Refusal
+first_record xs = cond (leb 11 (length xs)) (record_with (kind_of (get_or xs 0 (pos 0))) (take 10 (drop 1 xs))) (Err NotARecord)
+
+abbrev pub first_entry : List ℤ → Entry
+first_entry xs = entry_of (first_record xs)
 
 -- the first n entries
 unfoldable pub first_entries : ℕ → List ℤ → List Entry
@@ -56,7 +68,7 @@ pub example_entries : entries_of example
     ∷ asks (station (pos 4687) (pos 4787) ((pos 1571 ∷ pos 1197 ∷ pos 1384 ∷ pos 6171 ∷ []) ∷ (pos 739 ∷ pos 363 ∷ pos 551 ∷ pos 5239 ∷ []) ∷ []))
     ∷ asks (close_line (pos 2) (negsuc 0)) ∷ asks (open_spur (pos 4) (pos 3) (pos 1) (pos 10000)) ∷ asks (close_spur (pos 2))
     ∷ asks (collimation (pos 5937 ∷ pos 5951 ∷ pos 6043 ∷ pos 6067 ∷ pos 6800 ∷ pos 40300 ∷ [])) ∷ refused 1 ∷ refused 1 ∷ []
-unfolding first_entries first_entry kind_of
+unfolding first_entries first_record kind_of
 example_entries = refl
 
 pub example_written : (written {A = ℕ} (1 ∷ 2 ∷ 3 ∷ []) (7 ∷ 8 ∷ []) ≡ 1 ∷ 2 ∷ []) × (written {A = ℕ} (1 ∷ []) (7 ∷ 8 ∷ []) ≡ 1 ∷ 8 ∷ [])

@@ -1,22 +1,32 @@
 -- The figures of a book as one list of numbers, for callers that take no struct.
-use Rattle.std.specs.Prelude.{List, [], ◌∷◌, ◌++◌, ℕ, ℤ, pos}
+use Rattle.std.specs.Prelude.{cond, List, [], ◌∷◌, ◌++◌, ℕ, eqb, ℤ, pos}
+use Rattle.numbers.specs.Numbers.{filled}
 use Rattle.adjust.specs.declared.Point.{Point}
 use Rattle.adjust.specs.declared.Summary.{Summary}
+use Rattle.adjust.specs.declared.Verdict.TheVariants.{NotGiven}
+use Rattle.adjust.specs.declared.LineFigures.{LineFigures}
+use Rattle.adjust.specs.Line.{verdict_number}
+use Rattle.adjust.specs.Frames.{no_point, adjusted_of}
 use Rattle.rules.specs.declared.Run.{Run}
 use Rattle.rules.specs.declared.Book.{Book}
-use Rattle.book.specs.declared.CloseAnswer.{CloseAnswer}
-use Rattle.book.specs.declared.CloseAnswer.TheVariants.{Closed, NotClosed}
-use Rattle.book.specs.Calls.{figures_of}
+use Rattle.rules.specs.LineState.{state_of}
+use Rattle.book.specs.Calls.{closing_of, figures_refusal}
 
--- of a closed book its summary, of another zeros
-abbrev pub summary_of : CloseAnswer → Summary
-summary_of (Closed s) = s
-summary_of (NotClosed n) = record { closure = pos 0; distance = pos 0; count = 0; accidental = pos 0; verdict = 0 }
+abbrev pub no_figures : LineFigures
+no_figures =
+    record {
+      summary = record { closure = pos 0; distance = pos 0; count = 0; accidental = pos 0; verdict = NotGiven };
+      points = filled no_point 65 [];
+    }
+
+-- of a closed book the figures of its line, of another zeros
+abbrev pub told : Book → LineFigures
+told b = cond (eqb (figures_refusal b) 0) (adjusted_of (closing_of (state_of b))) no_figures
 
 -- W, L, n, T and the verdict; the present run's count, G, s and sum of d; the number of sections
 abbrev pub head_figures : Summary → Run → ℕ → List ℤ
 head_figures s run sections =
-    s.closure ∷ s.distance ∷ pos s.count ∷ s.accidental ∷ pos s.verdict
+    s.closure ∷ s.distance ∷ pos s.count ∷ s.accidental ∷ pos (verdict_number s.verdict)
     ∷ pos run.count ∷ run.height ∷ run.sights ∷ run.difference ∷ pos sections ∷ []
 
 -- of each point its number, distance, correction and height
@@ -24,6 +34,6 @@ unfoldable pub point_figures : List Point → List ℤ
 point_figures [] = []
 point_figures (p ∷ ps) = p.number ∷ p.distance ∷ p.correction ∷ p.height ∷ point_figures ps
 
--- the points of a book that is not closed are zeros too
+-- the figures that are told, of the line and of each point
 abbrev pub book_figures : Book → List ℤ
-book_figures b = head_figures (summary_of (figures_of b).answer) b.line.present b.sections.count ++ point_figures (figures_of b).points
+book_figures b = head_figures (told b).summary b.line.present b.sections.count ++ point_figures (told b).points

@@ -2,84 +2,68 @@
 ghost use Rattle.std.specs.Prelude.{◌≡◌, ◌≤◌};
 ghost use Rattle.std.proofs.lemmas.List.Edits.{sets};
 ghost use Rattle.numbers.specs.Numbers.{written};
-ghost use Rattle.runner.specs.Figures.{summary_of, head_figures, point_figures, book_figures};
+ghost use Rattle.runner.specs.Figures.{told, head_figures, point_figures, book_figures};
 
-use adjust::{Point, Summary};
-use book::{CloseAnswer, calls};
+use adjust::{LineFigures, Point, Summary};
+use book::calls;
 use rules::{Book, Run};
 
-// Figures into their places from place `at` on, as far as there are places.
+// Figures into their places from place `at` on, as far as there are places. (Of writes through `iter_mut().skip(at).zip(..)` a proof knows no element.)
 fn put(figures: &[i64], list: &mut [i64], at: usize)
     requires { at ≤ 270 }
     ensures { list.new ≡ sets list.old at figures.now }
 {
-    for k in 0..figures.len() {
-        let figure = figures[k];
+    for (k, &figure) in figures.iter().enumerate() {
         if at + k < list.len() {
             list[at + k] = figure;
         }
     }
 }
 
-fn summary_of(a: CloseAnswer) -> Summary
-    ensures { result ≡ summary_of a }
+// The figures of the line of a closed book, and zeros of another.
+fn told(b: &Book) -> LineFigures
+    ensures { result ≡ told b.now }
 {
-    match a {
-        CloseAnswer::Closed(summary) => summary,
-        CloseAnswer::NotClosed(_) => Summary {
-            closure: 0,
-            distance: 0,
-            count: 0,
-            accidental: 0,
-            verdict: 0,
-        },
-    }
+    calls::figures_of(*b).unwrap_or(LineFigures {
+        summary: Summary::default(),
+        points: [Point::default(); 65],
+    })
 }
 
-fn head_of(s: Summary, run: Run, sections: usize) -> [i64; 10]
-    requires { (s.count ≤ 64) × (run.count ≤ 200) × (sections ≤ 64) }
-    ensures { result ≡ head_figures s run sections }
+fn head_of(s: &Summary, run: &Run, sections: usize) -> [i64; 10]
+    requires { (s.now.count ≤ 64) × (run.now.count ≤ 200) × (sections ≤ 64) }
+    ensures { result ≡ head_figures s.now run.now sections }
 {
-    let count = s.count as i64;
-    let verdict = s.verdict as i64;
-    let stations = run.count as i64;
-    let finished = sections as i64;
     [
         s.closure,
         s.distance,
-        count,
+        s.count as i64,
         s.accidental,
-        verdict,
-        stations,
+        s.verdict.number() as i64,
+        run.count as i64,
         run.height,
         run.sights,
         run.difference,
-        finished,
+        sections as i64,
     ]
 }
 
-fn put_points(points: [Point; 65], list: &mut [i64])
-    ensures { list.new ≡ sets list.old 10 (point_figures points) }
+fn put_points(points: &[Point; 65], list: &mut [i64])
+    ensures { list.new ≡ sets list.old 10 (point_figures points.now) }
 {
-    for k in 0..65 {
-        let point = points[k];
+    for (k, point) in points.iter().enumerate() {
         let figures = [point.number, point.distance, point.correction, point.height];
         put(&figures, list, 4 * k + 10);
     }
 }
 
 // The figures of a book into the lent list, as far as it has places.
-pub(crate) fn put_book(b: Book, list: &mut [i64])
-    requires { (b.line.present.count ≤ 200) × (b.sections.count ≤ 64) }
-    ensures { list.new ≡ written (book_figures b) list.old }
+pub(crate) fn put_book(b: &Book, list: &mut [i64])
+    requires { (b.now.line.present.count ≤ 200) × (b.now.sections.count ≤ 64) }
+    ensures { list.new ≡ written (book_figures b.now) list.old }
 {
-    let closed = calls::figures_of(b);
-    let answer = closed.answer;
-    let points = closed.points;
-    let line = b.line;
-    let run = line.present;
-    let sections = b.sections;
-    let head = head_of(summary_of(answer), run, sections.count);
+    let figures = told(b);
+    let head = head_of(&figures.summary, &b.line.present, b.sections.count);
     put(&head, list, 0);
-    put_points(points, list)
+    put_points(&figures.points, list)
 }

@@ -1,78 +1,62 @@
 // Entries of a book in a lent list of numbers, 11 an entry (specs/Calls.antt).
 #![tactic(auto)]
 
-ghost use Rattle.std.specs.Prelude.{◌≡◌, ◌+◌, ◌/◌, length, set};
+ghost use Rattle.std.specs.Prelude.{◌≡◌, length, set};
 ghost use Rattle.numbers.specs.Numbers.{written};
+ghost use Rattle.records.specs.Refusals.{number_of};
 ghost use Rattle.rules.specs.LineState.{book_with};
 ghost use Rattle.book.specs.Calls.{fresh_book};
 ghost use Rattle.ledger.specs.Plain.{fresh_reading, plain_state};
-ghost use Rattle.ledger.specs.Entries.{entry_step, entry_refusals, after_entries};
-ghost use Rattle.runner.specs.Calls.{kind_of, first_entry, entries_of};
+ghost use Rattle.ledger.specs.Entries.{entry_number, entry_book, entry_refusals, after_entries};
+ghost use Rattle.runner.specs.Calls.{kind_of, first_record, first_entry, entries_of};
 ghost use Rattle.runner.specs.Figures.{book_figures};
 
-use book::{Step, calls};
-use records::{Kind, Tag};
+use book::calls::enter;
+use records::{Record, Refusal, Tag, number_of};
 use rules::Book;
 
 mod figures;
 
-// The record of a kind.
-fn kind_of(number: i64) -> Kind
+// The tag of a kind.
+#[tactic(auto, unfolding(crate::specs::Calls::kind_of))]
+fn kind_of(number: i64) -> Option<Tag>
     ensures { result ≡ kind_of number }
 {
     match number {
-        1 => Kind::Record(Tag::Lin),
-        2 => Kind::Record(Tag::Sta),
-        3 => Kind::Record(Tag::Run),
-        4 => Kind::Record(Tag::Drr),
-        5 => Kind::Record(Tag::Drs),
-        6 => Kind::Record(Tag::End),
-        7 => Kind::Record(Tag::Spr),
-        8 => Kind::Record(Tag::Fin),
-        9 => Kind::Record(Tag::Ang),
-        _ => Kind::Refused(1),
+        1 => Some(Tag::Lin),
+        2 => Some(Tag::Sta),
+        3 => Some(Tag::Run),
+        4 => Some(Tag::Drr),
+        5 => Some(Tag::Drs),
+        6 => Some(Tag::End),
+        7 => Some(Tag::Spr),
+        8 => Some(Tag::Fin),
+        9 => Some(Tag::Ang),
+        _ => None,
     }
 }
 
-// Ten numbers of a list, copied.
-fn copy_ten(list: &[i64]) -> [i64; 10]
-    requires { length list.now ≡ 10 }
-    ensures { result ≡ list.now }
+// The record at the front of a list: its kind, then its numbers.
+#[tactic(auto, unfolding(crate::specs::Calls::first_record))]
+fn first_record(list: &[i64]) -> Result<Record, Refusal>
+    ensures { result ≡ first_record list.now }
 {
-    let mut numbers = [0; 10];
-    for k in 0..10 {
-        let number = list[k];
-        numbers[k] = number;
-    }
-    numbers
+    let (kind, values) = list.split_first().ok_or(Refusal::NotARecord)?;
+    let tag = kind_of(*kind).ok_or(Refusal::NotARecord)?;
+    let values = values.first_chunk().copied().ok_or(Refusal::NotARecord)?;
+    Ok(Record { tag, values })
 }
 
-// The first entry of a list, taken of the book.
-#[tactic(auto, unfolding(crate::specs::Calls::first_entry))]
-fn take_first(b: Book, list: &[i64]) -> Step
-    ensures { result ≡ entry_step b (first_entry list.now) }
+// The first entry of a list, taken of the book in its place. Like a text's line but for the parser, in a crate that knows no texts.
+fn take_first(book: &mut Book, list: &[i64]) -> Result<(), Refusal>
+    ensures number { number_of result ≡ entry_number book.old (first_entry list.now) }
+    ensures book { book.new ≡ entry_book book.old (first_entry list.now) }
 {
-    if list.len() < 11 {
-        return Step { number: 1, book: b };
-    }
-    let kind = kind_of(list[0]);
-    match kind {
-        Kind::Record(tag) => calls::take(b, tag, copy_ten(&list[1..11])),
-        Kind::Refused(number) => Step {
-            number: number,
-            book: b,
-        },
-    }
+    let record = first_record(list)?;
+    enter(book, &record)
 }
 
-// How many entries a list has; a rest is one too.
-fn entry_count(list: &[i64]) -> usize
-    ensures { result ≡ (length list.now + 10) / 11 }
-{
-    (list.len() + 10) / 11
-}
-
-// The number of an entry into its place of the lent list, where there is one.
+// The number of an entry into its place of the lent list, where there is one. (Of a write through `get_mut` a proof knows no element.)
 fn put_number(numbers: &mut [u8], k: usize, number: u8)
     ensures { numbers.new ≡ set numbers.old k number }
 {
@@ -83,29 +67,25 @@ fn put_number(numbers: &mut [u8], k: usize, number: u8)
 
 // The entries one after another, the first on a fresh book. Each entry's number goes into its place of the lent list, where there is one.
 pub fn run_calls(calls: &[i64], numbers: &mut [u8]) -> Book
-    ensures { (result ≡ book_with fresh_book (plain_state (after_entries fresh_reading (entries_of calls.now))))
-        × (numbers.new ≡ written (entry_refusals fresh_reading (entries_of calls.now)) numbers.old) }
+    ensures book { result ≡ book_with fresh_book (plain_state (after_entries fresh_reading (entries_of calls.now))) }
+    ensures numbers { numbers.new ≡ written (entry_refusals fresh_reading (entries_of calls.now)) numbers.old }
 {
-    let n = entry_count(calls);
-    let mut b = book::fresh();
-    for k in 0..n {
-        let at = k * 11;
-        let s = take_first(b, &calls[at..]);
-        b = s.book;
-        put_number(numbers, k, s.number);
+    let mut book = book::fresh();
+    for (k, entry) in calls.chunks(11).enumerate() {
+        let number = number_of(take_first(&mut book, entry));
+        put_number(numbers, k, number);
     }
-    b
+    book
 }
 
 // The same in the form in which it is exported: the figures of the book that the entries leave go into the second lent list,
 // as far as it has places. The answer is how many entries there are, whether or not their numbers had places.
 pub fn level_run(calls: &[i64], numbers: &mut [u8], figures: &mut [i64]) -> usize
-    ensures { (result ≡ length (entries_of calls.now))
-        × ((numbers.new ≡ written (entry_refusals fresh_reading (entries_of calls.now)) numbers.old)
-        × (figures.new
-        ≡ written (book_figures (book_with fresh_book (plain_state (after_entries fresh_reading (entries_of calls.now))))) figures.old)) }
+    ensures count { result ≡ length (entries_of calls.now) }
+    ensures numbers { numbers.new ≡ written (entry_refusals fresh_reading (entries_of calls.now)) numbers.old }
+    ensures figures { figures.new ≡ written (book_figures (book_with fresh_book (plain_state (after_entries fresh_reading (entries_of calls.now))))) figures.old }
 {
-    let b = run_calls(calls, numbers);
-    figures::put_book(b, figures);
-    entry_count(calls)
+    let book = run_calls(calls, numbers);
+    figures::put_book(&book, figures);
+    calls.len().div_ceil(11)
 }

@@ -6,12 +6,13 @@ use Prim.Native.Nat.{ℕ, ◌≤◌}
 use native.Mathlib.Omega.{arith}
 use lib.IntN.{ℤ, pos, nat_abs}
 use mir.Syntax.{w64}
-use mir.Val.{SFits, to_z}
+use mir.Val.{to_z}
 use Rattle.numbers.specs.Numbers.{between, eq_z}
+use Rattle.numbers.specs.Tables.{first_of}
 use Rattle.numbers.proofs.Tests.{and_l, and_r, not-false}
 use Rattle.numbers.proofs.Equal.{eq_z_eq}
 use Rattle.numbers.proofs.Sizes.{between_size}
-use Rattle.numbers.proofs.Machine.{stored, stored_id}
+use Rattle.numbers.proofs.Machine.{stored, stored_id, abs_fits}
 use Rattle.numbers.proofs.Chain.{Value, known, cast}
 use Rattle.numbers.proofs.Tables.{failed}
 use Rattle.station.specs.declared.Staffs.{Staffs}
@@ -72,9 +73,8 @@ pub record Read (x : Station) : Type 0 where
   pub back : SmallStaff x.back
   pub fore : SmallStaff x.fore
 
-pub read : (kb kf : ℤ) (readings : List (List ℤ)) → reading_refusal kb kf readings ≡ 0 → Read (station_of kb kf readings)
-unfolding reading_refusal
-read kb kf readings e =
+pub of_tests : (x : Station) → first_of (reading_tests x) ≡ 0 → Read x
+of_tests x e =
     let fails = failed (reading_tests x) refl e in
     let range = not-false (readings_in_range x.back && readings_in_range x.fore) (fails 6) in
     let pair = not-false (constants_paired x) (fails 7) in
@@ -90,9 +90,10 @@ read kb kf readings e =
       back = small_staff x.back (paired_sizes x pair).0 b;
       fore = small_staff x.fore (paired_sizes x pair).1 r;
     }
-  where
-    x : Station
-    x = station_of kb kf readings
+
+pub read : (kb kf : ℤ) (readings : List (List ℤ)) → reading_refusal kb kf readings ≡ 0 → Read (station_of kb kf readings)
+unfolding reading_refusal
+read kb kf readings e = of_tests (station_of kb kf readings) e
 
 -- ---- what `scale_of` and `constant_of` give, as an operation reads it
 
@@ -103,11 +104,12 @@ scale_size (Measured first second) = omega arith
 pub scale_value : (c : Staffs) {n : ℕ} → n ≡ scale_of c → Value (to_z w64 n) (pos (scale_of c)) 10
 scale_value c {n} e = let v = cast n {k = 10} (omega (arith, e, scale_size c)) tt in record { is = v.is ∙ ap pos e; size = scale_size c }
 
-pub constant_value : (c : Staffs) (k : ℤ) {z : ℤ} → SFits w64 k → nat_abs k ≤ 4787
+pub constant_value : (c : Staffs) (k : ℤ) {z : ℤ} → nat_abs k ≤ 4787
     → z ≡ constant_of c (stored k) → (nat_abs (stored k) ≤ 65535 → nat_abs z ≤ 65535) → Value (stored z) (constant_of c k) 65535
-constant_value c k {z} f h value bound =
-    let is = value ∙ ap (constant_of c) (stored_id f) in
-    let small = bound (omega (arith, h, ap nat_abs (stored_id f))) in
+constant_value c k {z} h value bound =
+    let e : stored k ≡ k = stored_id (abs_fits (omega arith)) in
+    let is = value ∙ ap (constant_of c) e in
+    let small = bound (omega (arith, h, ap nat_abs e)) in
     record { is = (known z {k = 65535} small tt).is ∙ is; size = omega (arith, small, ap nat_abs is) }
 
 -- so the machine's term has the value's size

@@ -1,8 +1,11 @@
 -- A station: its readings, what is computed of them, and the limits of GB 12898-91, Tables 6 and 8 (document 01, 'The station').
-use Rattle.std.specs.Prelude.{◌≡◌, Bool, not, cond, ◌&&◌, ◌||◌, List, [], ◌∷◌, ℕ, ◌*◌, get_or, eqb, ℤ, pos, ◌+ℤ◌, ◌-ℤ◌, ◌*ℤ◌}
+use Rattle.std.specs.Prelude.{◌≡◌, Bool, not, cond, ◌&&◌, ◌||◌, List, [], ◌∷◌, ℕ, ◌*◌, get_or, ℤ, pos, ◌+ℤ◌, ◌-ℤ◌, ◌*ℤ◌, IfOk}
+use Rattle.std.specs.declared.result.Result.{Result}
 use Rattle.std.specs.Int.Signed.{lt_z}
 use Rattle.numbers.specs.Numbers.{within, between, eq_z}
 use Rattle.numbers.specs.Tables.{first_of}
+use Rattle.records.specs.declared.Refusal.{Refusal}
+use Rattle.records.specs.Refusals.{number_of}
 use Rattle.station.specs.declared.Order.{Order}
 use Rattle.station.specs.declared.Order.TheVariants.{Third, Fourth}
 use Rattle.station.specs.declared.Instrument.{Instrument}
@@ -12,8 +15,8 @@ use Rattle.station.specs.declared.Staffs.TheVariants.{Nominal, Measured}
 use Rattle.station.specs.declared.Limits.{Limits}
 use Rattle.station.specs.declared.Sighting.{Sighting}
 use Rattle.station.specs.declared.Figures.{Figures}
-use Rattle.station.specs.declared.Readings.{Readings}
-use Rattle.station.specs.declared.Readings.TheVariants as Readings
+pub use Rattle.station.specs.declared.Staff.{Staff}
+pub use Rattle.station.specs.declared.Station.{Station}
 
 -- the parts of a millimetre in which the staffs' constants are given
 abbrev pub scale_of : Staffs → ℕ
@@ -28,18 +31,6 @@ constant_of (Measured first second) k = cond (eq_z k (pos 4687)) (pos first) (po
 -- millimetres in these parts
 abbrev pub in_parts : Staffs → ℤ → ℤ
 in_parts c x = pos (scale_of c) *ℤ x
-
--- a staff's constant K, the nominal one, and its four readings, in mm
-pub record Staff : Type 0 where
-  pub constant : ℤ
-  pub upper : ℤ
-  pub lower : ℤ
-  pub black : ℤ
-  pub red : ℤ
-
-pub record Station : Type 0 where
-  pub back : Staff
-  pub fore : Staff
 
 -- readings come as upper thread, lower thread, black middle, red middle
 abbrev pub staff_of : ℤ → List ℤ → Staff
@@ -128,24 +119,6 @@ limit_tests l accumulated f =
 unfoldable pub reading_refusal : ℤ → ℤ → List (List ℤ) → ℕ
 reading_refusal kb kf readings = first_of (reading_tests (station_of kb kf readings))
 
--- document 01's number of an answer, 0 for a station, and the station's figures
-abbrev pub read_number : Readings → ℕ
-read_number (Readings.Station f) = 0
-read_number (Readings.Refused n) = n
-
-abbrev pub read_figures : Readings → List Figures
-read_figures (Readings.Station f) = f ∷ []
-read_figures (Readings.Refused n) = []
-
--- the answer with a number: the figures where it is 0
-abbrev pub read_as : ℕ → Figures → Readings
-read_as n f = cond (eqb n 0) (Readings.Station f) (Readings.Refused n)
-
-abbrev pub read_of : Staffs → ℤ → ℤ → List (List ℤ) → Readings
-read_of c kb kf readings = read_as (reading_refusal kb kf readings) (figures_of c (station_of kb kf readings))
-
--- r is that answer, and has, by `read_number` and `read_figures`, document 01's number and the station's figures
-abbrev pub Reads : Staffs → ℤ → ℤ → List (List ℤ) → Readings → Type 0
-Reads c kb kf readings r =
-    let n : ℕ = reading_refusal kb kf readings in
-    (r ≡ read_of c kb kf readings) × ((read_number r ≡ n) × (read_figures r ≡ cond (eqb n 0) (figures_of c (station_of kb kf readings) ∷ []) []))
+-- r has that number, and where it is 0 the station's figures
+abbrev pub Reads : Staffs → ℤ → ℤ → List (List ℤ) → Result Figures Refusal → Type 0
+Reads c kb kf readings r = (number_of r ≡ reading_refusal kb kf readings) × IfOk r (λ f. f ≡ figures_of c (station_of kb kf readings))

@@ -2,32 +2,51 @@
 // black middle and red middle in mm; kb and kf are the constants of the back and the fore staff.
 #![tactic(auto)]
 
-ghost use Rattle.std.specs.Prelude.{◌≡◌, true, cond, ◌&&◌, ◌+◌, ◌≤◌, leb, pos, nat_abs, ◌+ℤ◌, ◌-ℤ◌};
+ghost use Rattle.std.specs.Prelude.{◌≡◌, true, ◌&&◌, ◌+◌, ◌≤◌, leb, nat_abs, ◌+ℤ◌, ◌-ℤ◌, IfOk};
 ghost use Rattle.numbers.specs.Numbers.{within};
 ghost use Rattle.numbers.specs.Tables.{first_of};
-ghost use Rattle.station.specs.code.Bounds.{SmallSighting, Small, SmallReadings};
-ghost use Rattle.station.specs.Station.{staff_of, station_of, sighting_of, twice_height, figures_of, readings_in_range, threads_in_order, constants_paired, reading_refusal, Reads, scale_of, constant_of, sight_limit, limits_of, limit_tests};
+ghost use Rattle.records.specs.Refusals.{number_of};
+ghost use Rattle.station.specs.code.Bounds.{SmallSighting, Small};
+ghost use Rattle.station.specs.Station.{staff_of, station_of, sighting_of, twice_height, figures_of, readings_in_range, threads_in_order, constants_paired, reading_tests, Reads, scale_of, constant_of, sight_limit, limits_of, limit_tests};
 
+use records::Refusal;
 use roots::limits::magnitude;
 
-#[derive(Clone, Copy)]
+#[derive(Clone, Copy, PartialEq, Eq)]
 pub enum Order {
     Third,
     Fourth,
 }
 
 // DS3, or one of the better instruments, DS1 and DS05.
-#[derive(Clone, Copy)]
+#[derive(Clone, Copy, PartialEq, Eq)]
 pub enum Instrument {
     Ds3,
     Ds1,
 }
 
 // The constants of the two staffs: the nominal 4,687 and 4,787 mm, or those that were measured, in tenths of a millimetre, of the staff 4,687 first.
-#[derive(Clone, Copy)]
+// No Option: nominal constants are constants too, and not the lack of any.
+#[derive(Clone, Copy, PartialEq, Eq)]
 pub enum Staffs {
     Nominal,
     Measured(u16, u16),
+}
+
+// A staff's constant K, the nominal one, and its four readings, in mm.
+#[derive(Clone, Copy)]
+pub struct Staff {
+    pub constant: i64,
+    pub upper: i64,
+    pub lower: i64,
+    pub black: i64,
+    pub red: i64,
+}
+
+#[derive(Clone, Copy)]
+pub struct Station {
+    pub back: Staff,
+    pub fore: Staff,
 }
 
 // The limits that an order and an instrument set: dm for sights; for faces mm, or the part of it in which the constants are given.
@@ -56,50 +75,27 @@ pub struct Figures {
     pub height: i64,
 }
 
-// What readings are: those of a station, with its figures, or refused with this number of document 01.
-#[derive(Clone, Copy)]
-pub enum Readings {
-    Station(Figures),
-    Refused(u8),
+fn staff_of(k: i64, t: [i64; 4]) -> Staff
+    ensures { result ≡ staff_of k t }
+{
+    let [upper, lower, black, red] = t;
+    Staff {
+        constant: k,
+        upper,
+        lower,
+        black,
+        red,
+    }
 }
 
-// code where t holds, rest otherwise.
-pub fn pick(t: bool, code: u8, rest: u8) -> u8
-    ensures { result ≡ cond t code rest }
+fn station_of(kb: i64, kf: i64, readings: [[i64; 4]; 2]) -> Station
+    ensures { result ≡ station_of kb kf readings }
 {
-    if t { code } else { rest }
-}
-
-fn in_range(t: [i64; 4]) -> bool
-    ensures { result ≡ readings_in_range (staff_of (pos 0) t) }
-{
-    ((0 <= t[0]) & (t[0] <= 3000))
-        & ((0 <= t[1]) & (t[1] <= 3000))
-        & ((0 <= t[2]) & (t[2] <= 3000))
-        & ((0 <= t[3]) & (t[3] <= 7999))
-}
-
-fn in_order(t: [i64; 4]) -> bool
-    ensures { result ≡ threads_in_order (staff_of (pos 0) t) }
-{
-    (t[1] < t[2]) & (t[2] < t[0])
-}
-
-fn paired(kb: i64, kf: i64, readings: [[i64; 4]; 2]) -> bool
-    ensures { result ≡ constants_paired (station_of kb kf readings) }
-{
-    ((kb == 4687) & (kf == 4787)) | ((kb == 4787) & (kf == 4687))
-}
-
-// The refusal that the readings and constants alone cause: 6, 7 or 8, or 0.
-fn reading_refusal(kb: i64, kf: i64, readings: [[i64; 4]; 2]) -> u8
-    ensures { result ≡ reading_refusal kb kf readings }
-{
-    let back = readings[0];
-    let fore = readings[1];
-    let order = pick(!(in_order(back) & in_order(fore)), 8, 0);
-    let constants = pick(!paired(kb, kf, readings), 7, order);
-    pick(!(in_range(back) & in_range(fore)), 6, constants)
+    let [back, fore] = readings;
+    Station {
+        back: staff_of(kb, back),
+        fore: staff_of(kf, fore),
+    }
 }
 
 // The parts of a millimetre in which the constants are given: 1 or 10.
@@ -121,81 +117,116 @@ fn constant_of(staffs: Staffs, k: i64) -> i64
         Staffs::Nominal => k,
         Staffs::Measured(first, second) => {
             if k == 4687 {
-                first as i64
+                i64::from(first)
             } else {
-                second as i64
+                i64::from(second)
             }
         }
     }
 }
 
-// The sight and face difference of a staff with the nominal constant k.
-fn sighting_of(staffs: Staffs, k: i64, t: [i64; 4]) -> Sighting
-    requires { (nat_abs k ≤ 4787) × (readings_in_range (staff_of k t) ≡ true) }
-    ensures value { result ≡ sighting_of staffs (staff_of k t) }
-    ensures small_sighting { SmallSighting result }
-{
-    let scale = scale_of(staffs) as i64;
-    Sighting {
-        sight: t[0] - t[1],
-        face: constant_of(staffs, k) + scale * (t[2] - t[3]),
+impl Staff {
+    fn in_range(&self) -> bool
+        ensures { result ≡ readings_in_range self.now }
+    {
+        (0..=3000).contains(&self.upper)
+            && (0..=3000).contains(&self.lower)
+            && (0..=3000).contains(&self.black)
+            && (0..=7999).contains(&self.red)
+    }
+
+    fn in_order(&self) -> bool
+        ensures { result ≡ threads_in_order self.now }
+    {
+        self.lower < self.black && self.black < self.upper
+    }
+
+    // The sight and face difference.
+    fn sighting(&self, staffs: Staffs) -> Sighting
+        requires { (nat_abs self.now.constant ≤ 4787) × (readings_in_range self.now ≡ true) }
+        ensures value { result ≡ sighting_of staffs self.now }
+        ensures small_sighting { SmallSighting result }
+    {
+        let scale = scale_of(staffs) as i64;
+        Sighting {
+            sight: self.upper - self.lower,
+            face: constant_of(staffs, self.constant) + scale * (self.black - self.red),
+        }
     }
 }
 
-// Twice the height of a station, from its middle readings.
-fn twice_height(staffs: Staffs, kb: i64, kf: i64, readings: [[i64; 4]; 2]) -> i64
-    requires { reading_refusal kb kf readings ≡ 0 }
-    ensures value { result ≡ twice_height staffs (station_of kb kf readings) }
-    ensures result_bound { nat_abs result ≤ 351050 }
-{
-    let back = readings[0];
-    let fore = readings[1];
-    let scale = scale_of(staffs) as i64;
-    let constants = constant_of(staffs, kb) - constant_of(staffs, kf);
-    scale * ((back[2] - fore[2]) + (back[3] - fore[3])) - constants
-}
+impl Station {
+    fn is_paired(&self) -> bool
+        ensures { result ≡ constants_paired self.now }
+    {
+        (self.back.constant == 4687 && self.fore.constant == 4787)
+            || (self.back.constant == 4787 && self.fore.constant == 4687)
+    }
 
-fn computed(staffs: Staffs, kb: i64, kf: i64, readings: [[i64; 4]; 2]) -> Figures
-    requires { reading_refusal kb kf readings ≡ 0 }
-    ensures value { result ≡ figures_of staffs (station_of kb kf readings) }
-    ensures small { Small result }
-{
-    let height = twice_height(staffs, kb, kf, readings);
-    let back = sighting_of(staffs, kb, readings[0]);
-    let fore = sighting_of(staffs, kf, readings[1]);
-    let difference = back.sight - fore.sight;
-    Figures {
-        back: back,
-        fore: fore,
-        difference: difference,
-        height: height,
+    // The refusal that the readings and constants alone cause: 6, 7 or 8.
+    fn check_readings(&self) -> Result<(), Refusal>
+        ensures { number_of result ≡ first_of (reading_tests self.now) }
+    {
+        if !(self.back.in_range() && self.fore.in_range()) {
+            return Err(Refusal::Reading);
+        }
+        if !self.is_paired() {
+            return Err(Refusal::Constants);
+        }
+        if !(self.back.in_order() && self.fore.in_order()) {
+            return Err(Refusal::ThreadOrder);
+        }
+        Ok(())
+    }
+
+    // Twice the height, from the middle readings.
+    fn twice_height(&self, staffs: Staffs) -> i64
+        requires { first_of (reading_tests self.now) ≡ 0 }
+        ensures value { result ≡ twice_height staffs self.now }
+        ensures result_bound { nat_abs result ≤ 351050 }
+    {
+        let scale = scale_of(staffs) as i64;
+        let constants = constant_of(staffs, self.back.constant)
+            - constant_of(staffs, self.fore.constant);
+        scale * ((self.back.black - self.fore.black) + (self.back.red - self.fore.red)) - constants
+    }
+
+    fn figures(&self, staffs: Staffs) -> Figures
+        requires { first_of (reading_tests self.now) ≡ 0 }
+        ensures value { result ≡ figures_of staffs self.now }
+        ensures small { Small result }
+    {
+        let back = self.back.sighting(staffs);
+        let fore = self.fore.sighting(staffs);
+        let difference = back.sight - fore.sight;
+        let height = self.twice_height(staffs);
+        Figures {
+            back,
+            fore,
+            difference,
+            height,
+        }
     }
 }
 
 // A station's figures, or the refusal that its readings and constants alone cause: 6, 7 or 8.
-pub fn read(staffs: Staffs, kb: i64, kf: i64, readings: [[i64; 4]; 2]) -> Readings
+pub fn read(staffs: Staffs, kb: i64, kf: i64, readings: [[i64; 4]; 2]) -> Result<Figures, Refusal>
     ensures reads { Reads staffs kb kf readings result }
-    ensures small_readings { SmallReadings result }
+    ensures small { IfOk result (λ f. Small f) }
 {
-    let number = reading_refusal(kb, kf, readings);
-    if number != 0 {
-        return Readings::Refused(number);
-    }
-    Readings::Station(computed(staffs, kb, kf, readings))
+    let station = station_of(kb, kf, readings);
+    station.check_readings()?;
+    Ok(station.figures(staffs))
 }
 
 fn sight_limit(order: Order, instrument: Instrument) -> u64
     ensures { result ≡ sight_limit order instrument }
 {
-    match order {
-        Order::Third => match instrument {
-            Instrument::Ds3 => 750,
-            Instrument::Ds1 => 1000,
-        },
-        Order::Fourth => match instrument {
-            Instrument::Ds3 => 1000,
-            Instrument::Ds1 => 1500,
-        },
+    match (order, instrument) {
+        (Order::Third, Instrument::Ds3) => 750,
+        (Order::Third, Instrument::Ds1) => 1000,
+        (Order::Fourth, Instrument::Ds3) => 1000,
+        (Order::Fourth, Instrument::Ds1) => 1500,
     }
 }
 
@@ -206,14 +237,14 @@ fn limits_of(order: Order, instrument: Instrument, staffs: Staffs) -> Limits
     let scale = scale_of(staffs);
     match order {
         Order::Third => Limits {
-            sight: sight,
+            sight,
             difference: 20,
             accumulated: 50,
             face: 2 * scale,
             faces: 3 * scale,
         },
         Order::Fourth => Limits {
-            sight: sight,
+            sight,
             difference: 30,
             accumulated: 100,
             face: 3 * scale,
@@ -232,62 +263,48 @@ fn is_within(x: i64, limit: u64) -> bool
 fn both_within(x: i64, y: i64, limit: u64) -> bool
     ensures { result ≡ within x limit && within y limit }
 {
-    is_within(x, limit) & is_within(y, limit)
+    is_within(x, limit) && is_within(y, limit)
 }
 
-// Whether the magnitudes of x and y together are within the limit.
-fn together_within(x: i64, y: i64, limit: u64) -> bool
-    ensures { result ≡ leb (nat_abs x + nat_abs y) limit }
-{
-    let m = magnitude(x);
-    if limit < m {
-        return false;
-    }
-    magnitude(y) <= limit - m
-}
-
-// Whether x + y is within the limit, also where the sum would wrap.
+// Whether x + y is within the limit, also where the sum has more than 64 bits.
 fn sum_within(x: i64, y: i64, limit: u64) -> bool
     ensures { result ≡ within (x +ℤ y) limit }
 {
-    if (x < 0) == (y < 0) {
-        return together_within(x, y, limit);
-    }
-    is_within(x + y, limit)
+    (i128::from(x) + i128::from(y)).unsigned_abs() <= u128::from(limit)
 }
 
 // And x - y.
 fn difference_within(x: i64, y: i64, limit: u64) -> bool
     ensures { result ≡ within (x -ℤ y) limit }
 {
-    if (x < 0) != (y < 0) {
-        return together_within(x, y, limit);
-    }
-    is_within(x - y, limit)
+    x.abs_diff(y) <= limit
 }
 
-// The refusal that the limits of an order and an instrument cause to any figures: 24 to 28, or 0. accumulated is the sum of d before this station.
+// The refusal that the limits of an order and an instrument cause to any figures: 24 to 28. accumulated is the sum of d before this station.
 pub fn judge(
     order: Order,
     instrument: Instrument,
     staffs: Staffs,
     accumulated: i64,
-    f: Figures,
-) -> u8
-    ensures { result ≡ first_of (limit_tests (limits_of order instrument staffs) accumulated f) }
+    f: &Figures,
+) -> Result<(), Refusal>
+    ensures { number_of result ≡ first_of (limit_tests (limits_of order instrument staffs) accumulated f.now) }
 {
     let l = limits_of(order, instrument, staffs);
-    let faces = pick(!difference_within(f.back.face, f.fore.face, l.faces), 28, 0);
-    let face = pick(!both_within(f.back.face, f.fore.face, l.face), 27, faces);
-    let sum = pick(
-        !sum_within(accumulated, f.difference, l.accumulated),
-        26,
-        face,
-    );
-    let difference = pick(!is_within(f.difference, l.difference), 25, sum);
-    pick(
-        !both_within(f.back.sight, f.fore.sight, l.sight),
-        24,
-        difference,
-    )
+    if !both_within(f.back.sight, f.fore.sight, l.sight) {
+        return Err(Refusal::Sight);
+    }
+    if !is_within(f.difference, l.difference) {
+        return Err(Refusal::SightDifference);
+    }
+    if !sum_within(accumulated, f.difference, l.accumulated) {
+        return Err(Refusal::AccumulatedDifference);
+    }
+    if !both_within(f.back.face, f.fore.face, l.face) {
+        return Err(Refusal::FaceDifference);
+    }
+    if !difference_within(f.back.face, f.fore.face, l.faces) {
+        return Err(Refusal::HeightByFaces);
+    }
+    Ok(())
 }

@@ -1,60 +1,73 @@
--- The first line of a text, whether the text is too long, and the refusals among the numbers of its lines.
+-- Lines that come off the front of a text, its first line, and the refusals among the numbers of its lines.
 use mathlib.Core.Path.{◌≡◌, refl, sym, ap, ◌∙◌}
-use mathlib.Core.Bool.{Bool, true, false, cond}
-use mathlib.Core.List.{List, [], ◌∷◌, ◌++◌}
-use Prim.Native.Nat.{ℕ, zero, suc, ◌≤◌, ◌<◌}
+use mathlib.Core.Bool.{true, false, cond}
+use mathlib.Core.List.{List, [], ◌∷◌, ◌++◌, append-nil}
+use mathlib.Core.Logic.{◌≢◌}
+use Prim.Native.Nat.{ℕ, zero, suc, ◌*◌, ◌≤◌, ◌<◌, min}
 use native.Mathlib.Omega.{arith}
-use borrow.Author.Tests.{le-ltb, ltb-true, ltb-false}
 use lib.Dec.{eqb}
-use lib.ListN.{length, replicate}
+use lib.ListN.{length, replicate, take, drop, length-append, length-take, length-drop, drop_of_length-le}
+use lib.Seq.{take_all, take_at, drop_at}
+use Rattle.std.proofs.lemmas.Bool.{cases_lt}
+use Rattle.std.proofs.lemmas.List.{nil_from_length}
+use Rattle.std.proofs.Common.{inl, inr}
 use Rattle.numbers.specs.Numbers.{filled}
-use Rattle.numbers.proofs.Tests.{by_test, is_true, is_false}
 use Rattle.numbers.proofs.Arrays.{written_none}
-use Rattle.columns.specs.Decimals.{same}
-use Rattle.columns.specs.Lines.{line_with, heading}
+use Rattle.columns.specs.Decimals.{same, blanks}
+use Rattle.columns.specs.Lines.{line_end, line_with, heading}
 use Rattle.columns.specs.Texts.{lines}
+use Rattle.columns.proofs.Compare.{same_lengths}
 use Rattle.columns.proofs.Texts.{lines_next, lines_end}
-use Rattle.textbook.specs.declared.text.State.{State}
-use Rattle.textbook.specs.Text.{Refusal, most_text, too_long, refusals_from}
-use Rattle.textbook.specs.code.State.{text_from, line_at, after_heading, unread, text_state, refused_text, text_read}
+use Rattle.textbook.specs.Text.{Refusal, refusals_from}
+use Rattle.textbook.specs.code.State.{text_from, after_heading, unread, text_state}
+
+-- ---- a line that comes off the front of a text
+
+-- the first n elements of a list, or all where it is shorter, and the others
+pub chunk_parts : (n : ℕ) (all chunk rest : List ℕ) → all ≡ chunk ++ rest → length chunk ≡ min n (length all) → (take n all ≡ chunk) × (drop n all ≡ rest)
+chunk_parts n all chunk rest parts size =
+    let sum = ap length parts ∙ length-append chunk rest in
+    elim (cases_lt (length all) n) [
+      | inl short ↦
+          let none : rest ≡ [] = nil_from_length rest (omega arith) in
+          (take_all n all (omega arith) ∙ parts ∙ ap (λ (r : List ℕ). chunk ++ r) none ∙ append-nil chunk, drop_of_length-le all (omega arith) ∙ sym none)
+      | inr long ↦
+          let whole : length chunk ≡ n = omega arith in
+          (ap (take n) parts ∙ take_at chunk rest n whole, ap (drop n) parts ∙ drop_at chunk rest n whole)
+    ]
+
+pub lines_chunk : (all line rest : List ℕ) → all ≡ line ++ rest → length line ≡ min 84 (length all) → 0 < length all → lines all ≡ line ∷ lines rest
+lines_chunk all line rest parts size some =
+    let p = chunk_parts 84 all line rest parts size in lines_next all 0 some ∙ (λ i. p.0 i ∷ lines (p.1 i))
+
+-- from a line on there is no more than the whole
+pub from_short : (t : List ℕ) (k : ℕ) → length (text_from t k) ≤ length t
+from_short t zero = omega arith
+from_short t (suc k) = omega (arith, length-drop (84 * k) t)
 
 -- ---- the first line
 
--- what is read, by whether the first line is the heading
-abbrev read_or : Bool → List ℕ → State
-read_or b t = cond b (after_heading (lines (text_from t 2))) unread
+module _ (t line rest : List ℕ) where
+  first_line : 84 ≤ length t → line ≡ take 84 t → rest ≡ drop 84 t → text_state (lines t) ≡ cond (same line heading) (after_heading (lines rest)) unread
+  first_line h front back = ap text_state (lines_next t 0 (omega arith)) ∙ (λ i. cond (same (sym front i) heading) (after_heading (lines (sym back i))) unread)
 
-first_line : (t : List ℕ) → read_or (same (line_at t 1) heading) t ≡ text_state (lines t)
-unfolding same heading line_with
-first_line [] = ap text_state (sym (lines_end [] 0 (omega arith)))
-first_line (b ∷ t) = ap text_state (sym (lines_next (b ∷ t) 0 (omega arith)))
+  -- with the heading, and without it
+  pub with_heading : 84 ≤ length t → line ≡ take 84 t → rest ≡ drop 84 t → same line heading ≡ true → after_heading (lines rest) ≡ text_state (lines t)
+  with_heading h front back e = sym (first_line h front back ∙ (λ i. cond (e i) (after_heading (lines rest)) unread))
 
--- with the heading, and without it
-module _ (t : List ℕ) where
-  pub with_heading : same (line_at t 1) heading ≡ true → after_heading (lines (text_from t 2)) ≡ text_state (lines t)
-  with_heading e = ap (λ (b : Bool). read_or b t) (sym e) ∙ first_line t
+  pub without_heading : 84 ≤ length t → line ≡ take 84 t → rest ≡ drop 84 t → same line heading ≡ false → unread ≡ text_state (lines t)
+  without_heading h front back e = sym (first_line h front back ∙ (λ i. cond (e i) (after_heading (lines rest)) unread))
 
-  pub without_heading : same (line_at t 1) heading ≡ false → unread ≡ text_state (lines t)
-  without_heading e = ap (λ (b : Bool). read_or b t) (sym e) ∙ first_line t
+heading_long : length heading ≡ 84
+unfolding heading line_with line_end blanks
+heading_long = refl
 
--- ---- too long a text, and one that is not
-
-module _ (t : List ℕ) where
-  pub read_short : length t ≤ most_text → text_read t ≡ record { number = 0; state = text_state (lines t) }
-  read_short h = rw (le-ltb most_text (length t) h)
-
-  -- the other way round, from the number
-  abbrev number_by : Bool → ℕ
-  number_by b = (cond b refused_text (record { number = 0; state = text_state (lines t) })).number
-
-  pub long_read : 0 < (text_read t).number → (most_text < length t) × ((text_read t).number ≡ 9)
-  long_read =
-      by_test (too_long t) (λ b. 0 < number_by b → (most_text < length t) × (number_by b ≡ 9)) (λ long h. (ltb-true most_text (length t) (is_true long), refl))
-      (λ short h. absurd (omega arith))
-
-  pub short_read : (text_read t).number ≡ 0 → length t ≤ most_text
-  short_read =
-      by_test (too_long t) (λ b. number_by b ≡ 0 → length t ≤ most_text) (λ long e. absurd (omega arith)) (λ short e. ltb-false most_text (length t) (is_false short))
+-- a text that is shorter than a line
+pub no_heading : (t : List ℕ) → length t < 84 → unread ≡ text_state (lines t)
+no_heading [] h = ap text_state (sym (lines_end [] 0 (omega arith)))
+no_heading (b ∷ t) h =
+    let short : length (take 84 (b ∷ t)) ≢ length heading = omega (arith, heading_long, length-take 84 (b ∷ t)) in
+    sym (ap text_state (lines_next (b ∷ t) 0 (omega arith)) ∙ (λ i. cond (same_lengths (take 84 (b ∷ t)) heading short i) (after_heading (lines (drop 84 (b ∷ t)))) unread))
 
 -- ---- the refusals among the numbers
 

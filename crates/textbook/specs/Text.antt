@@ -17,7 +17,7 @@ too_long text = ltb most_text (length text)
 
 -- what a line asks for: its record's call, or none where it is refused with 1 or 2
 abbrev pub line_entry : List ℕ → Entry
-line_entry l = entry_of (line_in l).kind (line_in l).values
+line_entry l = entry_of (line_in l)
 
 abbrev pub entries : List (List ℕ) → List Entry
 entries ls = map line_entry ls

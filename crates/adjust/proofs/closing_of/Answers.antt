@@ -1,5 +1,5 @@
 -- `closing_of`: the frame is the line's, and what is answered follows from the sums, T, the verdict and the points.
-use Rattle.std.proofs.Common.{◌≡◌, List, sym, ap, ◌∙◌, ◌*◌, rules}
+use Rattle.std.proofs.Common.{◌≡◌, List, length, sym, ap, ◌∙◌, ◌*◌, rules}
 use mathlib.Core.Path.{subst}
 use lib.IntN.{◌*ℤ◌}
 use mir.Syntax.{w64}
@@ -7,41 +7,38 @@ use mir.Val.{SFits}
 use Rattle.numbers.specs.Numbers.{filled}
 use Rattle.numbers.proofs.Machine.{stored, stored_id, stored_both}
 use Rattle.numbers.proofs.Chain.{Value, known, mul, kept}
-use Rattle.adjust.specs.declared.LineSummary.TheVariants.{Adjusted}
 use Rattle.adjust.specs.declared.Section.{Section}
 use Rattle.adjust.specs.declared.Frame.{Frame}
 use Rattle.adjust.specs.declared.terms.Terms.{Terms}
 use Rattle.adjust.specs.Sizes.{most_prints, most_w}
-use Rattle.adjust.specs.Sections.{sections_of}
 use Rattle.adjust.specs.Terms.{terms_of}
 use Rattle.adjust.specs.Line.{quarters, wholes, totals, totals_by, frame, line_frame, points, accidental_sum, verdict}
 use Rattle.adjust.specs.Frames.{no_point}
 use Rattle.adjust.specs.code.Bounds.{Framed}
-use Rattle.adjust.proofs.Lists.{from_length}
 use Rattle.adjust.proofs.Sized.{quarters_in, wholes_in, framed, framed_by}
 use Rattle.adjust.proofs.closing_of.Goals as goal
-use Rattle.adjust.proofs.closing_of.Goals.{After-frame_of-f}
+use Rattle.adjust.proofs.closing_of.Goals.{After-new-f}
 
-module _ (c : After-frame_of-f) where
+module _ (c : After-new-f) where
   abbrev ss : List Section
-  ss = sections_of c.args.s
+  ss = c.args.sections.now
 
   abbrev line : Frame
-  line = line_frame c.args.opening c.args.end ss
+  line = line_frame c.args.opening.now c.args.end ss
 
   framed_line : Framed line
-  framed_line = framed_by (terms_of c.args.opening.class) (framed quarters_in wholes_in c.requires.0)
+  framed_line = framed_by (terms_of c.args.opening.now.class) (framed quarters_in wholes_in c.requires.0)
 
-  frame_is : c.frame_of-f.result ≡ line
+  frame_is : c.new-f.result ≡ line
   frame_is =
-      let start : SFits w64 c.args.opening.start.height = search rules in
+      let start : SFits w64 c.args.opening.now.start.height = search rules in
       let h = stored_id start in
       let ends = c.totals_between.ensures ∙ stored_both (λ x y. totals quarters x y ss) start c.ranges.end in
-      c.frame_of-f.ensures ∙ (λ i. frame quarters wholes (h i) ((c.totals_by-t.ensures ∙ (λ j. totals_by (c.terms_of-terms.ensures j) (ends j))) i))
+      c.new-f.ensures ∙ (λ i. frame quarters wholes (h i) ((c.totals_by-t.ensures ∙ (λ j. totals_by (c.terms-terms.ensures j) (ends j))) i))
 
-pub points_of-points-requires : goal.points_of-points-requires
-points_of-points-requires c =
-    let f = (goal.at.points_of-points-requires c).After-frame_of-f in
+pub points-requires : goal.points-requires
+points-requires c =
+    let f = (goal.at.points-requires c).After-new-f in
     (subst Framed (sym (frame_is f)) (framed_line f), c.requires.0.fits, ap (λ (x : Frame). x.total) (frame_is f))
 
 -- W as printed
@@ -50,15 +47,14 @@ printed f h = mul (known f.prints h.prints.most tt) (known f.closure h.closure t
 
 pub returns : goal.returns
 returns c =
-    let f = (goal.at.returns c).After-frame_of-f in
+    let f = (goal.at.returns c).After-new-f in
     let e = frame_is f in
-    let m = c.terms_of-terms.ensures in
-    let number : SFits w64 c.args.opening.start.number = search rules in
+    let m = c.terms-terms.ensures in
+    let number : SFits w64 c.args.opening.now.start.number = search rules in
     let tf : SFits w64 c.accidental_sum-accidental.result = search rules in
-    let w = (kept (printed c.frame_of-f.result (subst Framed (sym e) (framed_line f))) tt).is ∙ (λ i. (e i).prints *ℤ (e i).closure) in
+    let w = (kept (printed c.new-f.result (subst Framed (sym e) (framed_line f))) tt).is ∙ (λ i. (e i).prints *ℤ (e i).closure) in
     let l = ap (λ (x : Frame). stored x.total) e ∙ (known (line f).total (framed_line f).total.most tt).is in
-    let n = sym (from_length c.args.s 0 c.args.s.count) in
     let t = stored_id tf ∙ c.accidental_sum-accidental.ensures ∙ ap (λ (x : Terms). accidental_sum x 1 (ss f)) m in
-    let judged = c.verdict_of-verdict.ensures ∙ (λ i. verdict (m i) (n i) (t i)) in
-    let shown = c.points_of-points.ensures ∙ (λ i. filled no_point 65 (points (e i) (stored_id number i) (ss f))) in
-    λ i. record { answer = Adjusted (record { closure = w i; distance = l i; count = n i; accidental = t i; verdict = judged i }); points = shown i }
+    let judged = c.verdict_of.ensures ∙ (λ i. verdict (m i) (length (ss f)) (t i)) in
+    let shown = c.points.ensures ∙ (λ i. filled no_point 65 (points (e i) (stored_id number i) (ss f))) in
+    λ i. record { summary = record { closure = w i; distance = l i; count = length (ss f); accidental = t i; verdict = judged i }; points = shown i }

@@ -1,34 +1,44 @@
--- Nothing is printed where a read failed, and of a text that is not too long its report.
-use Rattle.std.proofs.Common.{◌≡◌, sym, ap, ◌∙◌, Bool, false, ℕ, ◌≤◌, List, length, take, length-take, arith}
+-- Nothing is printed where a read failed; of a text the report, or that it is too long.
+use Rattle.std.proofs.Common.{◌≡◌, refl, sym, ap, ◌∙◌, List, ℕ, length, take, arith}
+use Rattle.std.specs.Prelude.{Some}
+use Rattle.std.specs.declared.option.Option.{Option}
 use Rattle.numbers.specs.Numbers.{put_at}
 use Rattle.numbers.proofs.Arrays.{put_none}
-use Rattle.textbook.specs.Text.{most_text}
-use Rattle.fieldbook.specs.declared.Reduced.{Reduced}
-use Rattle.fieldbook.specs.Report.{report, buffer_after, reduced_length, reduced_of, printed_of}
-use Rattle.fieldbook.proofs.Reports.{answered, not_refused, prints_report, prints_nothing, prints_text}
+use Rattle.fieldbook.specs.Report.{printed_for, printed_of}
+use Rattle.fieldbook.proofs.Reports.{refused, reported, prints_report, prints_refusal}
 use Rattle.fieldbook.proofs.print_input.Goals as goal
 
-pub returns-then-failed-clause-out_after : goal.returns-then-failed-clause-out_after
-returns-then-failed-clause-out_after c =
+pub returns-in_default-clause-out_after : goal.returns-in_default-clause-out_after
+returns-in_default-clause-out_after c =
     let d = c.args.out.now in
-    sym (ap (put_at d 0) (prints_nothing c.args.input.now c.args.count c.args.failed c.if-failed.true) ∙ put_none d 0)
+    sym (ap (λ (r : Option ℕ). put_at d 0 (printed_of c.args.input.now r)) c.in_default.is ∙ put_none d 0)
 
--- a report is printed, where the text is short and the buffer has room
-reported : (input d : List ℕ) (n : ℕ) {failed : Bool} → failed ≡ false → n ≤ most_text → 65536 ≤ length d
-    → (reduced_length (reduced_of (take n input) d) 0 ≡ length (printed_of input n failed)) × (buffer_after (take n input) d ≡ put_at d 0 (printed_of input n failed))
-reported input d n {failed} read h room =
-    let t = take n input in
-    let short : length t ≤ most_text = omega (arith, length-take n input) in
-    let a = answered t d 0 (not_refused t d short room) in
-    let e = sym (prints_text input n failed (report t) read (prints_report t short)) in
-    (ap (λ (r : Reduced). reduced_length r 0) a.0 ∙ ap length e, a.1 ∙ ap (put_at d 0) e)
+of_read : (input : List ℕ) {r : Option ℕ} {n : ℕ} → r ≡ Some n → printed_for (take n input) ≡ printed_of input r
+of_read input e = ap (printed_of input) (sym e)
 
-pub returns-clause-value : goal.returns-clause-value
-returns-clause-value c =
-    c.length_of.ensures
-    ∙ ap (λ (r : Reduced). reduced_length r 0) c.reduce_text-r.ensures.reduces.0
-    ∙ (reported c.args.input.now c.args.out.now c.args.count c.if-failed.false (omega arith) (omega arith)).0
+pub returns-in-Ok-clause-value : goal.returns-in-Ok-clause-value
+returns-in-Ok-clause-value c =
+    let r = c.in-Ok.ensures.reduces in
+    r.written ∙ ap length (prints_report (take c.in-Some.count c.args.input.now) c.args.out.now r.number ∙ of_read c.args.input.now c.in-Some.is)
 
-pub returns-clause-out_after : goal.returns-clause-out_after
-returns-clause-out_after c =
-    c.reduce_text-r.ensures.report_after ∙ (reported c.args.input.now c.args.out.now c.args.count c.if-failed.false (omega arith) (omega arith)).1
+pub returns-in-Ok-clause-out_after : goal.returns-in-Ok-clause-out_after
+returns-in-Ok-clause-out_after c =
+    let t = (take c.in-Some.count c.args.input.now) in
+    let d = c.args.out.now in
+    let r = c.in-Ok.ensures.reduces in
+    c.in-Ok.ensures.report_after ∙ sym (reported t d (sym r.number) r.written refl).1 ∙ ap (put_at d 0) (prints_report t d r.number ∙ of_read c.args.input.now c.in-Some.is)
+
+pub returns-in-Err-clause-value : goal.returns-in-Err-clause-value
+returns-in-Err-clause-value c =
+    let d = c.args.out.now in
+    c.put_refusal-in-Err.ensures.value ∙ ap length (prints_refusal (take c.in-Some.count c.args.input.now) d c.in-Err.field-0 (omega arith) c.in-Err.ensures.reduces.number ∙ of_read c.args.input.now c.in-Some.is)
+
+pub returns-in-Err-clause-out_after : goal.returns-in-Err-clause-out_after
+returns-in-Err-clause-out_after c =
+    let t = (take c.in-Some.count c.args.input.now) in
+    let d = c.args.out.now in
+    let x = c.in-Err.field-0 in
+    let number = c.in-Err.ensures.reduces.number in
+    let left = c.in-Err.ensures.report_after ∙ sym (refused t d x (sym number)).1 in
+    let line = prints_refusal t d x (omega arith) number ∙ of_read c.args.input.now c.in-Some.is in
+    c.put_refusal-in-Err.ensures.buf_after ∙ (λ i. put_at (left i) 0 (line i))

@@ -1,13 +1,13 @@
 -- The lines of a report as they are written from the reader's state.
-use Rattle.std.specs.Prelude.{◌≡◌, true, false, not, cond, List, [], ◌∷◌, ◌++◌, map, ℕ, ◌≤◌, eqb, length}
+use Rattle.std.specs.Prelude.{◌≡◌, true, false, not, cond, List, [], ◌∷◌, ◌++◌, map, ℕ, ◌≤◌, eqb}
 use Rattle.numbers.specs.Numbers.{any_of}
 use Rattle.adjust.specs.declared.Point.{Point}
-use Rattle.adjust.specs.declared.Summary.{Summary}
+use Rattle.adjust.specs.declared.LineFigures.{LineFigures}
+use Rattle.adjust.specs.Frames.{adjusted_of}
 use Rattle.columns.specs.Lines.{title}
 use Rattle.rules.specs.declared.Book.{Book}
-use Rattle.book.specs.declared.CloseAnswer.{CloseAnswer}
-use Rattle.book.specs.declared.CloseAnswer.TheVariants.{Closed, NotClosed}
-use Rattle.book.specs.Calls.{closing_in, figures_of}
+use Rattle.rules.specs.LineState.{state_of}
+use Rattle.book.specs.Calls.{closing_in, closing_of, figures_refusal}
 use Rattle.textbook.specs.declared.text.State.{State}
 use Rattle.textbook.specs.Text.{refusals_from}
 use Rattle.fieldbook.specs.Report.{ref_line, opn_line, closing_lines}
@@ -21,16 +21,23 @@ refusal_bytes k n = cond (eqb n 0) [] (ref_line (record { line = k; number = n }
 abbrev pub refusal_lines : ℕ → List ℕ → List (List ℕ)
 refusal_lines k ns = map ref_line (refusals_from k ns)
 
--- of a book whose figures were asked for: the closing, or how many sections the line has
-abbrev pub answer_lines : Book → List Point → CloseAnswer → List (List ℕ)
-answer_lines b ps (Closed s) = closing_lines (closing_in s ps)
-answer_lines b ps (NotClosed n) = opn_line b.sections.count ∷ []
+abbrev pub figures_lines : LineFigures → List (List ℕ)
+figures_lines f = closing_lines (closing_in f)
 
+-- the figures that a closed book tells
+abbrev pub told_of : Book → LineFigures
+told_of b = adjusted_of (closing_of (state_of b))
+
+-- of a book whose figures were asked for: the closing, or how many sections the line has
 abbrev pub book_lines : Book → List (List ℕ)
-book_lines b = answer_lines b (figures_of b).points (figures_of b).answer
+book_lines b = cond (eqb (figures_refusal b) 0) (figures_lines (told_of b)) (opn_line b.sections.count ∷ [])
+
+-- the refusals, and what is said of the book's line
+abbrev pub below_title : State → List (List ℕ)
+below_title s = refusal_lines 0 s.refusals ++ book_lines s.book
 
 unfoldable pub state_lines : State → List (List ℕ)
-state_lines s = title ∷ (refusal_lines 0 s.refusals ++ book_lines s.book)
+state_lines s = title ∷ below_title s
 
 -- ---- what fits
 
@@ -38,12 +45,11 @@ abbrev pub points_fit : List Point → Type 0
 points_fit ps = any_of (λ (p : Point). not (point_fits p)) ps ≡ false
 
 -- the figures fit their fields
-pub record ClosingFits (s : Summary) (ps : List Point) : Type 0 where
-  pub few : s.count ≤ 64
-  pub places : length ps ≡ 65
-  pub summary : closed_fits s ≡ true
-  pub points : points_fit (closing_in s ps).points
+pub record ClosingFits (f : LineFigures) : Type 0 where
+  pub few : f.summary.count ≤ 64
+  pub summary : closed_fits f.summary ≡ true
+  pub points : points_fit (closing_in f).points
 
 pub record Printable (b : Book) : Type 0 where
   pub few : b.sections.count ≤ 64
-  pub closing : (s : Summary) → (figures_of b).answer ≡ Closed s → ClosingFits s (figures_of b).points
+  pub closing : figures_refusal b ≡ 0 → ClosingFits (told_of b)

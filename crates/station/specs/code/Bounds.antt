@@ -2,8 +2,6 @@
 use Rattle.std.specs.Prelude.{◌≤◌, nat_abs}
 use Rattle.station.specs.declared.Sighting.{Sighting}
 use Rattle.station.specs.declared.Figures.{Figures}
-use Rattle.station.specs.declared.Readings.{Readings}
-use Rattle.station.specs.declared.Readings.TheVariants.{Station, Refused}
 
 pub record SmallSighting (g : Sighting) : Type 0 where
   pub sight : nat_abs g.sight ≤ 6000
@@ -14,8 +12,3 @@ pub record Small (f : Figures) : Type 0 where
   pub fore : SmallSighting f.fore
   pub difference : nat_abs f.difference ≤ 12000
   pub height : nat_abs f.height ≤ 351050
-
--- of what is answered of readings
-abbrev pub SmallReadings : Readings → Type 0
-SmallReadings (Station f) = Small f
-SmallReadings (Refused n) = Unit {0}

@@ -1,6 +1,7 @@
--- `squares_of`: t of one section more is added, and none remains at the end.
-use Rattle.std.proofs.Common.{◌≡◌, List, ℕ, ◌+◌, ◌≤◌, ◌<◌, true, sym, ap, ◌∙◌, arith}
+-- `squares_of`: t of one section more is added, and none is left at the end.
+use Rattle.std.proofs.Common.{◌≡◌, List, ◌∷◌, ℕ, ◌+◌, ◌*◌, ◌≤◌, ◌<◌, true, length, get_or, drop, sym, ap, ◌∙◌, arith}
 use mathlib.Core.Path.{subst}
+use lib.ListN.{drop_of_length-le}
 use lib.IntN.{ℤ, nat_abs, ◌+ℤ◌, +ℤ_assoc, +ℤ_idr}
 use mir.Syntax.{w64}
 use mir.Val.{SFits}
@@ -9,67 +10,74 @@ use Rattle.numbers.proofs.Tests.{and_l, and_r}
 use Rattle.numbers.proofs.All.{All, all_head, all_tail}
 use Rattle.numbers.proofs.Sizes.{abs_add, within_size}
 use Rattle.numbers.proofs.Machine.{stored, stored_id}
-use Rattle.numbers.proofs.Chain.{known}
+use Rattle.numbers.proofs.Chain.{Value, known, plain, add, fits, kept}
+use Rattle.numbers.proofs.Arrays.{drop_next}
 use Rattle.adjust.specs.declared.Section.{Section}
-use Rattle.adjust.specs.declared.Sections.{Sections}
-use Rattle.adjust.specs.declared.accidental.Total.{Total}
-use Rattle.adjust.specs.Sizes.{most_d, most_sum_t, most_squared}
-use Rattle.adjust.specs.Sections.{section_at, sections_of, leg_fits, section_fits}
+use Rattle.adjust.specs.Sizes.{most_d, most_t, most_sum_t, most_squared}
+use Rattle.adjust.specs.Sections.{no_section, leg_fits, section_fits}
 use Rattle.adjust.specs.Line.{accidental}
 use Rattle.adjust.specs.code.Bounds.{OneTo, LegBounds}
-use Rattle.adjust.proofs.Lists.{remaining, next_remains, none_remain, leg_bounds}
+use Rattle.adjust.proofs.Lists.{leg_bounds}
 use Rattle.adjust.proofs.Bounded.{one_some, accidental_size}
 use Rattle.adjust.proofs.accidental.squares_of.Invariants.{squares, Going}
 use Rattle.adjust.proofs.accidental.squares_of.Goals as goal
 
-module _ {n : ℕ} {s : Sections} {k : ℕ} {t : Total} (here : k < s.count) (g : Going n s k t) where
-  fits_here : section_fits (section_at s k) ≡ true
-  fits_here = all_head section_fits (section_at s k) (remaining s (k + 1)) (subst (All section_fits) (next_remains s k here) g.fit)
+module _ {n : ℕ} {ss : List Section} {k : ℕ} {t : ℤ} (here : k < length ss) (g : Going n ss k t) where
+  abbrev x : Section
+  x = get_or ss k no_section
 
-  leg : LegBounds (section_at s k)
-  leg = leg_bounds (section_at s k) (and_l (leg_fits (section_at s k)) (within (section_at s k).discrepancy most_d) fits_here)
+  rest : drop k ss ≡ x ∷ drop (k + 1) ss
+  rest = drop_next ss k no_section here
 
-  discrepancy : nat_abs (section_at s k).discrepancy ≤ most_d
-  discrepancy = within_size (section_at s k).discrepancy most_d (and_r (leg_fits (section_at s k)) (within (section_at s k).discrepancy most_d) fits_here)
+  all_here : All section_fits (x ∷ drop (k + 1) ss)
+  all_here = subst (All section_fits) rest g.fit
 
-  next : 0 < n → Going n s (k + 1) (record { squares = t.squares +ℤ accidental n (section_at s k) })
+  fits_here : section_fits x ≡ true
+  fits_here = all_head section_fits x (drop (k + 1) ss) all_here
+
+  leg : LegBounds x
+  leg = leg_bounds x (and_l (leg_fits x) (within x.discrepancy most_d) fits_here)
+
+  discrepancy : nat_abs x.discrepancy ≤ most_d
+  discrepancy = within_size x.discrepancy most_d (and_r (leg_fits x) (within x.discrepancy most_d) fits_here)
+
+  next : 0 < n → Going n ss (k + 1) (t +ℤ accidental n x)
   next some =
-      let x = section_at s k in
-      let e = next_remains s k here in
       record {
-        small = omega (arith, abs_add t.squares (accidental n x), g.small, accidental_size n x some discrepancy leg);
-        fit = all_tail section_fits x (remaining s (k + 1)) (subst (All section_fits) e g.fit);
-        whole =
-            +ℤ_assoc t.squares (accidental n x) (squares n (remaining s (k + 1))) ∙ sym (ap (λ (xs : List Section). t.squares +ℤ squares n xs) e) ∙ g.whole;
+        small = omega (arith, abs_add t (accidental n x), g.small, accidental_size n x some discrepancy leg);
+        fit = all_tail section_fits x (drop (k + 1) ss) all_here;
+        whole = +ℤ_assoc t (accidental n x) (squares n (drop (k + 1) ss)) ∙ sym (ap (λ (xs : List Section). t +ℤ squares n xs) rest) ∙ g.whole;
       }
+
+  -- with what the call gave
+  more : 0 < n → length ss ≤ 64 → (r : ℤ) → r ≡ accidental n x → Value (t +ℤ stored r) (t +ℤ accidental n x) most_sum_t
+  more some few r e =
+      let size = accidental_size n x some discrepancy leg in
+      add (plain t {k = most_t * 63} (omega (arith, g.small)))
+      (record { is = (known r {k = most_t} (omega (arith, ap nat_abs e, size)) tt).is ∙ e; size = size })
+
+all : {n : ℕ} {ss : List Section} {k : ℕ} {t : ℤ} → length ss ≤ k → Going n ss k t → t ≡ squares n ss
+all {n} {ss} {k} {t} past g = sym (+ℤ_idr t) ∙ sym (ap (λ (xs : List Section). t +ℤ squares n xs) (drop_of_length-le ss {i = k} past)) ∙ g.whole
 
 -- the parameter as it is read back
 one : {z : ℤ} → SFits w64 z → OneTo most_squared z → OneTo most_squared (stored z)
 one f h = subst (OneTo most_squared) (sym (stored_id f)) h
 
-pub with_square-t-requires : goal.with_square-t-requires
-with_square-t-requires c =
-    let g = c.loop-k.invariant in
-    let here = c.loop-k-test.true in
-    let x = sym c.section_at.ensures in (
-      omega (arith, g.small, c.requires.1.few),
-      one c.ranges.squared c.requires.0,
-      subst (λ (y : Section). nat_abs y.discrepancy ≤ most_d) x (discrepancy here g),
-      subst LegBounds x (leg here g),
-    )
+pub accidental-squares-requires : goal.accidental-squares-requires
+accidental-squares-requires c =
+    (one c.ranges.squared c.requires.0, discrepancy c.loop-x-test.true c.loop-x.invariant, leg c.loop-x-test.true c.loop-x.invariant)
 
-pub loop-k-preserved : goal.loop-k-preserved
-loop-k-preserved c =
-    let n = nat_abs (stored c.args.squared) in
-    let e = c.with_square-t.ensures ∙ ap (λ (x : Section). record { squares = c.loop-k.t.squares +ℤ accidental n x }) c.section_at.ensures in
-    subst (Going n c.args.s (c.loop-k.k + 1)) (sym e) (next c.loop-k-test.true c.loop-k.invariant (one_some (one c.ranges.squared c.requires.0)))
+pub overflow_add-squares : goal.overflow_add-squares
+overflow_add-squares c =
+    fits (more c.loop-x-test.true c.loop-x.invariant (one_some (one c.ranges.squared c.requires.0)) c.requires.1.few c.accidental-squares.result c.accidental-squares.ensures) tt
+
+pub loop-x-preserved : goal.loop-x-preserved
+loop-x-preserved c =
+    let here = c.loop-x-test.true in
+    let g = c.loop-x.invariant in
+    let some = one_some (one c.ranges.squared c.requires.0) in
+    subst (Going (nat_abs (stored c.args.squared)) c.args.sections.now (c.loop-x.x-index + 1))
+    (sym (kept (more here g some c.requires.1.few c.accidental-squares.result c.accidental-squares.ensures) tt).is) (next here g some)
 
 pub returns : goal.returns
-returns c =
-    let s = c.args.s in
-    let g = c.loop-k.invariant in
-    let t = c.loop-k.t.squares in
-    let n = nat_abs (stored c.args.squared) in
-    (known t {k = most_sum_t} (omega (arith, g.small, c.requires.1.few)) tt).is
-    ∙ sym (+ℤ_idr t) ∙ sym (ap (λ (xs : List Section). t +ℤ squares n xs) (none_remain s c.loop-k.k c.loop-k-test.false)) ∙ g.whole
-    ∙ ap (λ (z : ℤ). squares (nat_abs z) (sections_of s)) (stored_id c.ranges.squared)
+returns c = all (omega arith) c.loop-x.invariant ∙ ap (λ (z : ℤ). squares (nat_abs z) c.args.sections.now) (stored_id c.ranges.squared)

@@ -5,10 +5,11 @@ use Rattle.adjust.specs.code.Bounds.{Between}
 use Rattle.adjust.proofs.Taken.{taken, taken_framed}
 use Rattle.adjust.proofs.call.adjust.Goals as goal
 
-pub points_of-points-requires : goal.points_of-points-requires
-points_of-points-requires c =
-    let between : Between (stored c.args.start) (stored c.args.end) c.args.s = grind (arith, taken) in (
-      taken_framed (stored c.args.start) (stored c.args.end) c.args.s c.totals_between-t.result c.frame_of.result c.totals_between-t.ensures c.frame_of.ensures between,
+pub points-points-requires : goal.points-points-requires
+points-points-requires c =
+    let ss = c.args.sections.now in
+    let between : Between (stored c.args.start) (stored c.args.end) ss = grind (arith, taken) in (
+      taken_framed (stored c.args.start) (stored c.args.end) ss c.totals_between-t.result c.new.result c.totals_between-t.ensures c.new.ensures between,
       grind (arith, taken),
       grind (arith, taken),
     )

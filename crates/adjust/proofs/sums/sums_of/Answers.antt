@@ -1,60 +1,69 @@
--- `sums_of`: one section more is added, and none remains at the end.
-use Rattle.std.proofs.Common.{List, ℕ, ◌+◌, ◌<◌, sym, ap, ◌∙◌, arith}
-use mathlib.Core.Path.{subst}
-use lib.IntN.{◌+ℤ◌, +ℤ_assoc, +ℤ_idr}
+-- `sums_of`: one section more is added, and none is left at the end.
+use Rattle.std.proofs.Common.{◌≡◌, List, ◌∷◌, ℕ, ◌+◌, ◌*◌, ◌≤◌, ◌<◌, length, get_or, drop, sym, ap, ◌∙◌, arith}
+use mathlib.Core.Path.{Path, subst}
+use lib.ListN.{drop_of_length-le}
+use lib.IntN.{ℤ, ◌+ℤ◌, +ℤ_assoc, +ℤ_idr}
 use Rattle.numbers.proofs.Sizes.{abs_add}
+use Rattle.numbers.proofs.Machine.{stored}
+use Rattle.numbers.proofs.Chain.{Value, known, plain, add, fits, kept}
+use Rattle.numbers.proofs.Arrays.{drop_next}
 use Rattle.adjust.specs.declared.Section.{Section}
-use Rattle.adjust.specs.declared.Sections.{Sections}
-use Rattle.adjust.specs.declared.sums.Sums.{Sums}
-use Rattle.adjust.specs.Sections.{section_at}
+use Rattle.adjust.specs.Sizes.{most_q, most_r, most_sum_q, most_l}
+use Rattle.adjust.specs.Sections.{no_section}
 use Rattle.adjust.specs.Line.{line_height, line_length}
 use Rattle.adjust.specs.code.Bounds.{LegBounds}
-use Rattle.adjust.proofs.Lists.{remaining, next_remains, none_remain, Fit, fit_head, fit_tail}
+use Rattle.adjust.proofs.Lists.{Fit, fit_head, fit_tail}
 use Rattle.adjust.proofs.sums.sums_of.Invariants.{Going}
 use Rattle.adjust.proofs.sums.sums_of.Goals as goal
 
-abbrev added : Sums → Section → Sums
-added t x = record { height = t.height +ℤ x.height; distance = t.distance +ℤ x.distance }
+module _ {ss : List Section} {k : ℕ} {height distance : ℤ} (here : k < length ss) (few : length ss ≤ 64) (g : Going ss k height distance) where
+  abbrev x : Section
+  x = get_or ss k no_section
 
-leg_here : {s : Sections} {k : ℕ} {t : Sums} → k < s.count → Going s k t → LegBounds (section_at s k)
-leg_here {s} {k} h g = fit_head (section_at s k) (remaining s (k + 1)) (subst Fit (next_remains s k h) g.fit)
+  rest : drop k ss ≡ x ∷ drop (k + 1) ss
+  rest = drop_next ss k no_section here
 
-next : {s : Sections} {k : ℕ} {t : Sums} → k < s.count → Going s k t → Going s (k + 1) (added t (section_at s k))
-next {s} {k} {t} h g =
-    let x = section_at s k in
-    let l = leg_here h g in
-    let e = next_remains s k h in
-    record {
-      small =
-          record {
-            height = omega (arith, abs_add t.height x.height, g.small.height, l.height);
-            distance = omega (arith, abs_add t.distance x.distance, g.small.distance, l.distance);
-          };
-      fit = fit_tail x (remaining s (k + 1)) (subst Fit e g.fit);
-      height = +ℤ_assoc t.height x.height (line_height (remaining s (k + 1))) ∙ sym (ap (λ (xs : List Section). t.height +ℤ line_height xs) e) ∙ g.height;
-      distance =
-          +ℤ_assoc t.distance x.distance (line_length (remaining s (k + 1))) ∙ sym (ap (λ (xs : List Section). t.distance +ℤ line_length xs) e) ∙ g.distance;
-    }
+  fits_here : Fit (x ∷ drop (k + 1) ss)
+  fits_here = subst Fit rest g.fit
 
-pub with_section-t-requires : goal.with_section-t-requires
-with_section-t-requires c =
-    let g = c.loop-k.invariant in (
-      record { height = omega (arith, g.small.height, c.requires.few); distance = omega (arith, g.small.distance, c.requires.few) },
-      subst LegBounds (sym c.section_at.ensures) (leg_here c.loop-k-test.true g),
-    )
+  leg : LegBounds x
+  leg = fit_head x (drop (k + 1) ss) fits_here
 
-pub loop-k-preserved : goal.loop-k-preserved
-loop-k-preserved c =
-    subst (Going c.args.s (c.loop-k.k + 1)) (sym (c.with_section-t.ensures ∙ ap (added c.loop-k.t) c.section_at.ensures))
-    (next c.loop-k-test.true c.loop-k.invariant)
+  higher : Value (height +ℤ stored x.height) (height +ℤ x.height) most_sum_q
+  higher = add (plain height {k = most_q * 63} (omega (arith, g.high))) (known x.height leg.height tt)
+
+  longer : Value (distance +ℤ stored x.distance) (distance +ℤ x.distance) most_l
+  longer = add (plain distance {k = most_r * 63} (omega (arith, g.long))) (known x.distance leg.distance tt)
+
+  next : Going ss (k + 1) (height +ℤ x.height) (distance +ℤ x.distance)
+  next =
+      record {
+        high = omega (arith, abs_add height x.height, g.high, leg.height);
+        long = omega (arith, abs_add distance x.distance, g.long, leg.distance);
+        fit = fit_tail x (drop (k + 1) ss) fits_here;
+        heights = +ℤ_assoc height x.height (line_height (drop (k + 1) ss)) ∙ sym (ap (λ (xs : List Section). height +ℤ line_height xs) rest) ∙ g.heights;
+        distances = +ℤ_assoc distance x.distance (line_length (drop (k + 1) ss)) ∙ sym (ap (λ (xs : List Section). distance +ℤ line_length xs) rest) ∙ g.distances;
+      }
+
+pub overflow_add-height : goal.overflow_add-height
+overflow_add-height c = fits (higher c.loop-x-test.true c.requires.few c.loop-x.invariant) tt
+
+pub overflow_add-distance : goal.overflow_add-distance
+overflow_add-distance c = fits (longer c.loop-x-test.true c.requires.few c.loop-x.invariant) tt
+
+pub loop-x-preserved : goal.loop-x-preserved
+loop-x-preserved c =
+    let here = c.loop-x-test.true in
+    let few = c.requires.few in
+    let g = c.loop-x.invariant in
+    subst (λ (t : ℤ × ℤ). Going c.args.sections.now (c.loop-x.x-index + 1) t.0 t.1) (λ i. (sym (kept (higher here few g) tt).is i, sym (kept (longer here few g) tt).is i)) (next here few g)
+
+all : {ss : List Section} {k : ℕ} {height distance : ℤ} → length ss ≤ k → Going ss k height distance → Path (ℤ × ℤ) (height, distance) (line_height ss, line_length ss)
+all {ss} {k} {height} {distance} past g =
+    let none = drop_of_length-le ss {i = k} past in
+    let h = sym (+ℤ_idr height) ∙ sym (ap (λ (xs : List Section). height +ℤ line_height xs) none) ∙ g.heights in
+    let d = sym (+ℤ_idr distance) ∙ sym (ap (λ (xs : List Section). distance +ℤ line_length xs) none) ∙ g.distances in
+    λ i. (h i, d i)
 
 pub returns : goal.returns
-returns c =
-    let t = c.loop-k.t in
-    let g = c.loop-k.invariant in
-    let e = none_remain c.args.s c.loop-k.k c.loop-k-test.false in
-    λ i.
-    record {
-      height = (sym (+ℤ_idr t.height) ∙ sym (ap (λ (xs : List Section). t.height +ℤ line_height xs) e) ∙ g.height) i;
-      distance = (sym (+ℤ_idr t.distance) ∙ sym (ap (λ (xs : List Section). t.distance +ℤ line_length xs) e) ∙ g.distance) i;
-    }
+returns c = all (omega arith) c.loop-x.invariant

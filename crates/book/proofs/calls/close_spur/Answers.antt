@@ -1,23 +1,17 @@
--- The record of the closing, taken, and the figures beside it.
-use mathlib.Core.Path.{sym, ap, ◌∙◌}
-use lib.IntN.{pos}
-use Rattle.rules.specs.Rules.{close_spur}
-use Rattle.book.specs.declared.Step.{Step}
-use Rattle.book.specs.Calls.{step_of, close_outcome}
-use Rattle.book.specs.code.Changes.{closed_step}
-use Rattle.changes.proofs.Joined.{close_spur_as}
-use Rattle.book.proofs.Closable.{closes, spur_fits}
+-- Where the closing is taken the figures of the book that it left fit, and they are the closing's.
+use Rattle.std.proofs.Common.{ap, subst, None}
+use Rattle.numbers.proofs.Machine.{stored, stored_id}
+use Rattle.rules.specs.Rules.{Call, close_spur}
+use Rattle.book.specs.Calls.{Closes}
+use Rattle.book.proofs.Joined.{closes}
+use Rattle.book.proofs.Closable.{closing_fits}
 use Rattle.book.proofs.calls.close_spur.Goals as goal
 
-pub closed_by-requires : goal.closed_by-requires
-closed_by-requires c =
-    let b = c.args.b in
-    let steps = c.take-s.ensures ∙ ap (step_of b) (close_spur_as c.ranges.number) in
-    λ z. spur_fits b c.args.number (sym (ap (λ (x : Step). x.number) steps) ∙ z)
+pub closed-requires : goal.closed-requires
+closed-requires c = closing_fits c.args.b (stored c.args.number) None c.call.ensures
 
 pub returns : goal.returns
-unfolding close_outcome
 returns c =
-    let b = c.args.b in
-    let steps = c.take-s.ensures ∙ ap (step_of b) (close_spur_as c.ranges.number) in
-    closes b (close_spur c.args.number) (c.closed_by.ensures ∙ (λ i. closed_step b (steps i) (pos 0)))
+    let told = c.closed.ensures in
+    subst (λ (k : Call). Closes c.args.b k c.closed.result) (ap close_spur (stored_id c.ranges.number))
+    (closes c.args.b (close_spur (stored c.args.number)) c.closed.result c.call.ensures told.number told.figures told.book)

@@ -1,34 +1,38 @@
--- `decide` tells the change of a book: what a call finds of the lists that it is lent is what it finds of the book.
-use Rattle.std.proofs.Common.{rules}
-use Rattle.rules.specs.declared.Book.{Book}
-use Rattle.rules.specs.LineState.{book_in}
-use Rattle.rules.specs.Rules.{book_refusal}
-use Rattle.rules.proofs.Looked.{collimation_alike, open_alike, spur_alike, station_alike, drop_alike, end_alike}
-use Rattle.changes.proofs.decisions.decide.Goals.{Start}
+-- `decide` opens a line or a spur by what the record's numbers name: each is read back as it is.
+use Rattle.std.proofs.Common.{sym, ap, subst, ◌∙◌, rules, w64, pos, get_or}
+use mir.Val.{SFits}
+use Rattle.numbers.proofs.Machine.{stored, stored_id}
+use Rattle.records.specs.declared.Tag.{Tag}
+use Rattle.rules.specs.Rules.{Call, open_line, open_spur}
+use Rattle.rules.specs.Records.{call_of}
+use Rattle.changes.specs.Changes.{Decides}
+use Rattle.changes.proofs.Joined.{opens_line, opens_spur}
 use Rattle.changes.proofs.decisions.decide.Goals as goal
 
--- the line and the lent lists of its sections
-abbrev book : Start → Book
-book s = book_in s.args.line s.args.count s.args.numbers.now s.args.heights.now s.args.distances.now s.args.discrepancies.now
-
 pub returns-in-Lin : goal.returns-in-Lin
-returns-in-Lin c = search (rules, open_alike (book (goal.at.returns-in-Lin c).Start))
-
-pub returns-in-Sta : goal.returns-in-Sta
-returns-in-Sta c = search (rules, station_alike (book (goal.at.returns-in-Sta c).Start))
-
-pub returns-in-Run : goal.returns-in-Run
-returns-in-Run c = search (rules, end_alike (book (goal.at.returns-in-Run c).Start))
-
-pub returns-in-Drr : goal.returns-in-Drr
-returns-in-Drr c = search (rules, drop_alike (book (goal.at.returns-in-Drr c).Start))
-
-pub returns-in-Drs : goal.returns-in-Drs
-unfolding book_refusal
-returns-in-Drs c = rw c.in-Drs.is (cc (drop_alike (book (goal.at.returns-in-Drs c).Start)))
+returns-in-Lin c =
+    let b = c.args.b.now in
+    let v = c.args.asked.now.values in
+    let o : SFits w64 (get_or c.args.asked.now.values 0 (pos 0)) = search rules in
+    let k : SFits w64 (get_or c.args.asked.now.values 1 (pos 0)) = search rules in
+    let n : SFits w64 (get_or c.args.asked.now.values 2 (pos 0)) = search rules in
+    let h : SFits w64 (get_or c.args.asked.now.values 3 (pos 0)) = search rules in
+    let d =
+    opens_line b (stored (get_or v 2 (pos 0))) (stored (get_or v 3 (pos 0))) (stored (get_or v 0 (pos 0))) (stored (get_or v 1 (pos 0))) c.open_change.result
+    c.class_named.ensures c.instrument_named.ensures (c.open_change.ensures.number, c.open_change.ensures.change) in
+    subst (λ (x : Call). Decides b x c.open_change.result)
+    ((λ i. open_line (stored_id o i) (stored_id k i) (stored_id n i) (stored_id h i)) ∙ sym (ap (λ (t : Tag). call_of t v) c.in-Lin.is)) d
 
 pub returns-in-Spr : goal.returns-in-Spr
-returns-in-Spr c = search (rules, spur_alike (book (goal.at.returns-in-Spr c).Start))
-
-pub returns-in-Ang : goal.returns-in-Ang
-returns-in-Ang c = search (rules, collimation_alike (book (goal.at.returns-in-Ang c).Start))
+returns-in-Spr c =
+    let b = c.args.b.now in
+    let v = c.args.asked.now.values in
+    let o : SFits w64 (get_or c.args.asked.now.values 0 (pos 0)) = search rules in
+    let k : SFits w64 (get_or c.args.asked.now.values 1 (pos 0)) = search rules in
+    let n : SFits w64 (get_or c.args.asked.now.values 2 (pos 0)) = search rules in
+    let h : SFits w64 (get_or c.args.asked.now.values 3 (pos 0)) = search rules in
+    let d =
+    opens_spur b (stored (get_or v 2 (pos 0))) (stored (get_or v 3 (pos 0))) (stored (get_or v 0 (pos 0))) (stored (get_or v 1 (pos 0))) c.open_change-in-Spr.result
+    c.spur_named.ensures c.instrument_named-in-Spr.ensures (c.open_change-in-Spr.ensures.number, c.open_change-in-Spr.ensures.change) in
+    subst (λ (x : Call). Decides b x c.open_change-in-Spr.result)
+    ((λ i. open_spur (stored_id o i) (stored_id k i) (stored_id n i) (stored_id h i)) ∙ sym (ap (λ (t : Tag). call_of t v) c.in-Spr.is)) d

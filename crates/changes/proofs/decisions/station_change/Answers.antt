@@ -1,59 +1,48 @@
--- `station_change` tells the refusal of the readings or of the station, or the line with the station's figures. Where the station is taken the line is unbroken, and the figures
--- and its run are small.
-use Rattle.std.proofs.Common.{◌≡◌, sym, ap, ◌∙◌, ℕ, ℤ, List, rules}
-use Rattle.numbers.specs.Tables.{first_of}
+-- `station_change` tells the refusal of the readings or of the station, or the line with the station's figures: it is unbroken then, so that its run is small.
+use Rattle.std.proofs.Common.{Ok, None, ◌≡◌, sym, ap, subst, ◌∙◌, rules}
+use Rattle.records.specs.Refusals.{refusal_number}
 use Rattle.numbers.proofs.Machine.{stored}
 use Rattle.station.specs.declared.Figures.{Figures}
-use Rattle.station.specs.declared.Readings.TheVariants.{Station}
-use Rattle.station.specs.Station.{Reads, reading_refusal}
-use Rattle.station.proofs.Answered.{of_station, of_refused}
-use Rattle.rules.specs.LineState.{LineState}
-use Rattle.rules.specs.code.Seen.{numbered, numbers_in}
-use Rattle.rules.specs.Rules.{station, book_station_tests, book_refusal}
-use Rattle.rules.proofs.Tables.{line_unbroken}
-use Rattle.rules.proofs.Parts.{input_refused, later_refused}
-use Rattle.rules.proofs.Unbroken.{unbroken}
-use Rattle.rules.proofs.Looked.{counted_broken}
-use Rattle.changes.specs.code.Changes.{effect_of}
-use Rattle.changes.proofs.Joined.{station_as, change_refused}
+use Rattle.rules.specs.declared.Line.{Line}
+use Rattle.rules.specs.LineState.{state_of, with_station}
+use Rattle.rules.specs.Rules.{Call, station, with_runs, book_refusal}
+use Rattle.changes.specs.Changes.{effect_of, Decides}
+use Rattle.changes.proofs.Joined.{book_unbroken, station_as, read_refused, read_number}
 use Rattle.changes.proofs.decisions.station_change.Goals as goal
 
-pub returns-in-Refused : goal.returns-in-Refused
-unfolding reading_refusal
-returns-in-Refused c =
+pub returns-in_err-figures : goal.returns-in_err-figures
+returns-in_err-figures c =
     let a = c.args in
-    let v = numbers_in a.line a.count a.numbers.now in
-    let refused = of_refused a.line.opening.staffs (stored a.kb) (stored a.kf) a.readings c.in-Refused.ensures.reads in
-    change_refused v a.line (station_as a.readings c.ranges.kb c.ranges.kf) (input_refused v (station (stored a.kb) (stored a.kf) a.readings) _ refused.0 refused.1) refused.1 c.line_only.ensures
+    let n : refusal_number c.in_err-figures.field-0.0 ≡ book_refusal (state_of a.b.now) (station a.kb a.kf a.readings) =
+    read_refused a.b.now (stored a.kb) (stored a.kf) a.readings c.in_err-figures.field-0.0 c.in_err-figures.ensures.reads
+    ∙ ap (book_refusal (state_of a.b.now)) (station_as a.readings c.ranges.kb c.ranges.kf) in
+    search (rules, n)
 
--- the number n of a station that is read, with the figures f, is the call's
-number : (v : LineState) (kb kf : ℤ) (readings : List (List ℤ)) {f : Figures} {n : ℕ} → Reads v.line.opening.staffs kb kf readings (Station f)
-    → n ≡ first_of (book_station_tests v kb f) → n ≡ book_refusal v (station kb kf readings)
-unfolding reading_refusal
-number v kb kf readings {f} {n} r e =
-    let read = of_station v.line.opening.staffs kb kf readings r in
-    later_refused v (station kb kf readings) n read.0 (e ∙ ap (λ (g : Figures). first_of (book_station_tests v kb g)) read.1)
-
-pub returns-then-code-ne0 : goal.returns-then-code-ne0
-returns-then-code-ne0 c =
+pub returns-in_err-check_station : goal.returns-in_err-check_station
+returns-in_err-check_station c =
     let a = c.args in
-    let v = numbers_in a.line a.count a.numbers.now in
-    let e = number v (stored a.kb) (stored a.kf) a.readings c.in-Station.ensures.reads c.station_refusal-code.ensures in
-    change_refused v a.line (station_as a.readings c.ranges.kb c.ranges.kf) e c.if-code-ne0.true c.line_only-then-code-ne0.ensures
+    let n : refusal_number c.in_err-check_station.field-0.0 ≡ book_refusal (state_of a.b.now) (station a.kb a.kf a.readings) =
+    read_number a.b.now (stored a.kb) (stored a.kf) a.readings c.in_ok-figures.figures c.in_ok-figures.ensures.reads c.in_err-check_station.ensures
+    ∙ ap (book_refusal (state_of a.b.now)) (station_as a.readings c.ranges.kb c.ranges.kf) in
+    search (rules, n)
 
 pub with_station-requires : goal.with_station-requires
 with_station-requires c =
     let a = c.args in
-    let v = numbers_in a.line a.count a.numbers.now in
-    let e = number v (stored a.kb) (stored a.kf) a.readings c.in-Station.ensures.reads c.station_refusal-code.ensures in
-    let broken = counted_broken a.line (numbered a.count a.numbers.now) in
-    ((unbroken a.line a.count (sym broken ∙ line_unbroken v _ (sym e ∙ c.if-code-ne0.false))).present, c.in-Station.ensures.small_readings)
+    let n = read_number a.b.now (stored a.kb) (stored a.kf) a.readings c.in_ok-figures.figures c.in_ok-figures.ensures.reads c.in_ok-check_station.ensures in
+    ((book_unbroken a.b.now (station (stored a.kb) (stored a.kf) a.readings) (sym n)).present, c.in_ok-figures.ensures.small)
 
-pub returns-else-code-ne0 : goal.returns-else-code-ne0
+pub returns : goal.returns
 unfolding effect_of
-returns-else-code-ne0 c =
+returns c =
     let a = c.args in
-    let v = numbers_in a.line a.count a.numbers.now in
-    let e = number v (stored a.kb) (stored a.kf) a.readings c.in-Station.ensures.reads c.station_refusal-code.ensures in
-    let figures = (of_station a.line.opening.staffs (stored a.kb) (stored a.kf) a.readings c.in-Station.ensures.reads).1 in
-    search rules
+    let l : Line = c.args.b.now.line in
+    let line =
+    c.with_station.ensures
+    ∙ ap (λ (f : Figures). with_runs l l.waiting (with_station l.present f (stored a.kf))) c.in_ok-figures.ensures.reads.1 in
+    let d : Decides a.b.now (station (stored a.kb) (stored a.kf) a.readings) (Ok c.of_line.result) =
+    record {
+      number = read_number a.b.now (stored a.kb) (stored a.kf) a.readings c.in_ok-figures.figures c.in_ok-figures.ensures.reads c.in_ok-check_station.ensures;
+      change = c.of_line.ensures ∙ (λ i. record { line = line i; section = None });
+    } in
+    subst (λ (k : Call). Decides a.b.now k (Ok c.of_line.result)) (station_as a.readings c.ranges.kb c.ranges.kf) d

@@ -1,21 +1,36 @@
--- A number that is read takes its place.
-use Rattle.std.proofs.Common.{◌≡◌, sym, ◌∙◌, ◌+◌, ◌-◌, ◌*◌, arith, rules}
+-- A number that is read takes its place; a field that is none refuses the line.
+use Rattle.std.proofs.Common.{◌≡◌, sym, ◌∙◌, ◌+◌, ◌-◌, ◌*◌, take, drop, arith, rules}
 use Rattle.std.proofs.lemmas.Int.{to_z-of_z}
+use Rattle.std.proofs.lemmas.Result.{err_from_is_err_and}
 use lib.ListN.{length-set}
 use mir.Syntax.{w64}
 use mir.Val.{SFits}
-use Rattle.columns.proofs.Records.{numbers_next, values_put}
+use Rattle.columns.specs.Decimals.{field_of}
+use Rattle.columns.proofs.Records.{field_read, field_refused, numbers_next, numbers_stop, values_put, line_refused}
 use Rattle.columns.proofs.parser.read_numbers.Goals as goal
+
+pub returns-in_err-values : goal.returns-in_err-values
+returns-in_err-values c =
+    let l = c.args.line.now in
+    let n = c.args.n in
+    let i = c.loop-i.i in
+    let p = err_from_is_err_and c.from_residual.result c.from_residual.ensures.1 in
+    let eight : 3 + 8 * i + 8 - (3 + 8 * i) ≡ 8 = omega arith in
+    let read : c.read_field.result ≡ field_of (take 8 (drop (3 + 8 * i) l)) = cc eight in
+    let f = field_refused l n i (omega arith) c.in_err-values.field-0.0 read (sym c.ok_or.ensures.value ∙ c.in_err-values.was) in
+    let stop = line_refused c.args.tag n (drop 3 l) (c.loop-i.invariant.numbers ∙ numbers_stop l n i (omega arith) f.0) in
+    rw (p.1, p.2, f.1) (sym stop)
 
 pub loop-i-preserved : goal.loop-i-preserved
 loop-i-preserved c =
     let l = c.args.line.now in
     let n = c.args.n in
     let i = c.loop-i.i in
-    let z = c.in-Number.v in
+    let z = c.in_ok-values.field-0 in
     let fit : SFits w64 z = search rules in
     let eight : 3 + 8 * i + 8 - (3 + 8 * i) ≡ 8 = omega arith in
-    let e = sym (rw eight at c.read_field-field.ensures) ∙ c.in-Number.is in
+    let read : c.read_field.result ≡ field_of (take 8 (drop (3 + 8 * i) l)) = cc eight in
+    let e = field_read l n i (omega arith) z read (sym c.ok_or.ensures.value ∙ c.in_ok-values.was) in
     record {
       places = simp length-set c.loop-i.invariant.places;
       numbers = c.loop-i.invariant.numbers ∙ numbers_next l n i (omega arith) z e;

@@ -1,24 +1,36 @@
 -- Point k is written, and then no point is left.
-use Rattle.std.proofs.Common.{◌+◌, map, get_or, length-take, arith}
+use Rattle.std.proofs.Common.{◌≡◌, ◌+◌, get_or, arith}
 use Rattle.adjust.specs.Frames.{no_point}
-use Rattle.columns.specs.Texts.{joined}
 use Rattle.fieldbook.specs.Report.{point_line}
-use Rattle.fieldbook.proofs.Written.{left_turn, left_none, points_left, points_turn, no_point_left, first_fits, others_fit, point_piece, point_long}
+use Rattle.fieldbook.proofs.Written.{part_put, left_turn, left_none, points_left, points_turn, no_point_left, first_fits, others_fit, point_long}
 use Rattle.fieldbook.proofs.printing.put_points.Goals as goal
 
-pub loop-k-preserved : goal.loop-k-preserved
-loop-k-preserved c =
-    let ps = c.args.points in
-    let n = c.args.n in
-    let k = c.loop-k.k in
-    let inv = c.loop-k.invariant in
-    let turn = points_turn ps n k (omega arith) (omega (arith, length-take n ps)) in
-    let p = get_or ps k no_point in
-    let long = point_long p (first_fits turn inv.fit) in
+module _ (c : goal.After-slice_known-in-loop-point-1) where
+  long : c.put_point-at.result ≡ 84
+  long =
+      let ps = c.args.points.now in
+      let k = c.loop-point.point-index in
+      omega (arith, c.put_point-at.ensures.value, point_long (get_or ps k no_point) (first_fits ps k c.loop-point-test.true c.loop-point.invariant.fit))
+
+pub overflow_add-at : goal.overflow_add-at
+overflow_add-at c = omega (arith, long c)
+
+pub loop-point-preserved : goal.loop-point-preserved
+loop-point-preserved c =
+    let ps = c.args.points.now in
+    let k = c.loop-point.point-index in
+    let h = c.loop-point-test.true in
+    let p = point_line (get_or ps k no_point) in
+    let after = c.put_point-at.ensures in
+    let is = long c in
     record {
-      fit = others_fit turn inv.fit;
-      left = left_turn inv.left (point_line p) (joined (map point_line (points_left ps n (k + 1)))) (point_piece turn inv.fit) (omega (arith, long)) c.put_point.ensures (omega (arith, long));
+      room = omega (arith, is);
+      fit = others_fit ps k h c.loop-point.invariant.fit;
+      left = left_turn c.loop-point.invariant.left p (points_left ps (k + 1)) (points_turn ps k h) (omega (arith, is, after.value)) (part_put c.loop-point.buf c.put_point-at.new.buf p c.loop-point.at after.buf_after) (omega (arith, after.value));
     }
 
-pub returns : goal.returns
-returns c = (left_none c.loop-k.invariant.left (no_point_left c.args.points c.args.n c.loop-k.k (omega arith))).1
+pub returns-clause-value : goal.returns-clause-value
+returns-clause-value c = (left_none c.loop-point.invariant.left (no_point_left c.args.points.now c.loop-point.point-index (omega arith))).0
+
+pub returns-clause-buf_after : goal.returns-clause-buf_after
+returns-clause-buf_after c = (left_none c.loop-point.invariant.left (no_point_left c.args.points.now c.loop-point.point-index (omega arith))).1

@@ -1,16 +1,20 @@
--- By magnitudes, and for a negative l by b alone.
+-- By magnitudes, but where b is above 0 and l below: what is held to 128 bits compares with b × l as it is.
 use mathlib.Core.Path.{◌≡◌, sym, ap, ◌∙◌}
 use mathlib.Core.Bool.{false}
-use Prim.Native.Nat.{ℕ, ◌*◌, ◌<◌}
-use native.Mathlib.Nat.{mul-pos, mul-zero, pos_of_ne-zero}
+use Prim.Native.Nat.{ℕ, zero, suc, ◌*◌, ◌≤◌, ◌<◌, min}
+use native.Mathlib.Nat.{mul-pos, zero-mul, mul-zero, mul-le-mul}
+use native.Mathlib.Omega.{arith}
 use lib.Dec.{leb}
-use lib.IntN.{ℤ, pos, nat_abs, ◌*ℤ◌, zero-*ℤ}
+use lib.IntN.{ℤ, pos, negsuc, nat_abs, ◌*ℤ◌, zero-*ℤ}
 use lib.Signed.{◌≤ℤ◌, ◌<ℤ◌, le_z}
-use Rattle.numbers.proofs.Parts.{ints, parts_times, neg_part, no_pos_part, le_z_false, pos_abs}
+use Rattle.numbers.proofs.Tests.{leb_same}
+use Rattle.numbers.proofs.Parts.{ints, parts_times, neg_part, no_pos_part, le_z_false}
 use Rattle.numbers.proofs.Sizes.{square_abs}
-use Rattle.numbers.proofs.Machine.{stored_id, literal_as, branch_lt, branch_ge}
+use Rattle.numbers.proofs.Machine.{stored_id, literal_as, fits_abs, branch_lt, branch_ge}
 use Rattle.roots.specs.Limit.{is_within}
+use Rattle.roots.proofs.LimitLaws.{within_nat}
 use Rattle.roots.proofs.limits.within.Goals as goal
+use Rattle.roots.proofs.limits.within.Goals.{else-b-gt0-via-then-b-gt0+else-l-lt0, else-b-gt0-via-else-b-gt0}
 
 -- nothing is within a limit below 0
 never : (a b : ℕ) (x l : ℤ) → 0 < b → l <ℤ pos 0 → is_within a x b l ≡ false
@@ -21,26 +25,33 @@ never a b x l h k =
     (rw (square_abs x) (omega (ints, parts_times b l, mul-pos h n, ap (λ (m : ℕ). b * m) (no_pos_part k), mul-zero b)))
 
 -- where b is 0, l does not count
-none : (a : ℕ) (x l : ℤ) → leb (a * (nat_abs x * nat_abs x)) 0 ≡ is_within a x 0 l
+by_sizes : (a b : ℕ) (x l : ℤ) → (0 < b → pos 0 ≤ℤ l) → leb (a * (nat_abs x * nat_abs x)) (b * nat_abs l) ≡ is_within a x b l
 unfolding is_within
-none a x l = λ i. le_z (pos a *ℤ sym (square_abs x) i) (sym (zero-*ℤ l) i)
+by_sizes a b x (pos n) h = sym (within_nat a x b n)
+by_sizes a zero x (negsuc n) h =
+    (λ i. leb (a * (nat_abs x * nat_abs x)) (zero-mul (suc n) i)) ∙ (λ i. le_z (pos a *ℤ sym (square_abs x) i) (sym (zero-*ℤ (negsuc n)) i))
+by_sizes a (suc b) x (negsuc n) h = absurd (h (omega arith)).le
 
-some : (a b : ℕ) (x l : ℤ) → pos 0 ≤ℤ l → leb (a * (nat_abs x * nat_abs x)) (b * nat_abs l) ≡ is_within a x b l
-unfolding is_within
-some a b x l k = λ i. le_z (pos a *ℤ sym (square_abs x) i) (pos b *ℤ pos_abs k i)
+-- a number held to `top` is as far below k as it is itself
+held : (n k top : ℕ) → k < top → leb (min n top) k ≡ leb n k
+held n k top h = leb_same (min n top) k n k (λ p. omega arith) (λ p. omega arith)
 
-pub returns-then-b-eq0 : goal.returns-then-b-eq0
-returns-then-b-eq0 c =
-    let m = c.magnitude-m.ensures ∙ ap nat_abs (stored_id c.ranges.x) in
-    c.at_most.ensures ∙ (λ i. leb (c.args.a * (m i * m i)) 0) ∙ none c.args.a c.args.x c.args.l
-    ∙ ap (λ (n : ℕ). is_within c.args.a c.args.x n c.args.l) (sym c.if-b-eq0.true)
+pub returns-then-l-lt0 : goal.returns-then-l-lt0
+returns-then-l-lt0 c =
+    sym (never c.args.a c.args.b c.args.x c.args.l c.if-b-gt0.true (branch_lt (stored_id c.ranges.l) (literal_as (pos 0)) c.if-l-lt0.true))
 
-pub returns-else-b-eq0 : goal.returns-else-b-eq0
-returns-else-b-eq0 c =
-    sym (never c.args.a c.args.b c.args.x c.args.l (pos_of_ne-zero c.if-b-eq0.false) (branch_lt (stored_id c.ranges.l) (literal_as (pos 0)) c.if-l-lt0.true))
-
-pub returns-else-l-lt0 : goal.returns-else-l-lt0
-returns-else-l-lt0 c =
-    let m = c.magnitude-m.ensures ∙ ap nat_abs (stored_id c.ranges.x) in
-    c.at_most-else-l-lt0.ensures ∙ (λ i. leb (c.args.a * (m i * m i)) (c.args.b * nat_abs (stored_id c.ranges.l i)))
-    ∙ some c.args.a c.args.b c.args.x c.args.l (branch_ge (stored_id c.ranges.l) (literal_as (pos 0)) c.if-l-lt0.false)
+pub returns : goal.returns
+returns c =
+    let p : 0 < c.args.b → pos 0 ≤ℤ c.args.l = elim c.else-b-gt0.branch [
+      | else-b-gt0-via-then-b-gt0+else-l-lt0 w ↦ λ h. branch_ge (stored_id c.ranges.l) (literal_as (pos 0)) w.if-l-lt0.false
+      | else-b-gt0-via-else-b-gt0 w ↦ λ h. absurd (omega arith)
+    ] in
+    let x = ap nat_abs (stored_id c.ranges.x) in
+    let l = ap nat_abs (stored_id c.ranges.l) in
+    let b : c.args.b ≤ 65535 = omega arith in
+    let m : nat_abs c.args.l ≤ 9223372036854775808 = fits_abs c.ranges.l in
+    let small : c.args.b * nat_abs c.args.l < 340282366920938463463374607431768211455 = omega (arith, mul-le-mul b m) in
+    let limit : c.from.result * c.from-2.result ≡ c.args.b * nat_abs c.args.l = cc in
+    let square : c.saturating_mul.result ≡ min (c.args.a * (nat_abs c.args.x * nat_abs c.args.x)) 340282366920938463463374607431768211455 = cc in
+    (λ i. leb (square i) (limit i)) ∙ held (c.args.a * (nat_abs c.args.x * nat_abs c.args.x)) (c.args.b * nat_abs c.args.l) 340282366920938463463374607431768211455 small
+    ∙ by_sizes c.args.a c.args.b c.args.x c.args.l p

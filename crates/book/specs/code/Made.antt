@@ -1,0 +1,13 @@
+-- How the code makes a change of a book. No rule of document 01.
+use Rattle.std.specs.Prelude.{◌≡◌, MatchResult, length}
+use Rattle.std.specs.declared.result.Result.{Result}
+use Rattle.records.specs.declared.Refusal.{Refusal}
+use Rattle.records.specs.Refusals.{number_of}
+use Rattle.rules.specs.declared.Book.{Book}
+use Rattle.changes.specs.declared.Change.{Change}
+use Rattle.changes.specs.Changes.{changed}
+
+-- a change that was decided, made of b, is answered by r and leaves d: the change made, in an array of 64 places, or the very book
+pub record Makes (b : Book) (decided : Result Change Refusal) (r : Result (Unit {0}) Refusal) (d : Book) : Type 0 where
+  pub number : number_of r ≡ number_of decided
+  pub book : MatchResult decided (λ x. (d ≡ changed b x) × (length b.sections.places ≡ 64)) (λ e. d ≡ b)

@@ -1,2 +1,0 @@
--- What only contracts and proofs use.
-pub mod Changes

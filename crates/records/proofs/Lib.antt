@@ -1,0 +1,2 @@
+-- What the crates above cite: the refusals by their numbers.
+pub mod Numbered

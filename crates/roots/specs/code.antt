@@ -1,2 +1,0 @@
--- What only contracts and proofs use: no other file of specs/ does.
-pub mod Wide

@@ -1,0 +1,45 @@
+-- `check_line` meets its contract: where the figures fit there are totals, W and L.
+use Rattle.std.specs.declared.option.Option.{Option}
+use Rattle.std.specs.Prelude.{Some, None}
+use Rattle.std.proofs.Common.{◌≡◌, ap, ◌∙◌, Bool, true, false, cond, List, ℤ, w64, rules}
+use mir.Val.{SFits}
+use Rattle.numbers.specs.Tables.{first_of}
+use Rattle.numbers.proofs.Tests.{no_true}
+use Rattle.numbers.proofs.Machine.{stored, stored_both}
+use Rattle.adjust.specs.declared.Section.{Section}
+use Rattle.adjust.specs.declared.Totals.{Totals}
+use Rattle.adjust.specs.Sections.{sections_of}
+use Rattle.adjust.specs.Line.{quarters, totals}
+use Rattle.adjust.specs.Frames.{figures_fit, line_totals}
+use Rattle.rules.specs.Rules.{total_tests}
+use Rattle.rules.proofs.closing.check_line.Goals as goal
+
+-- what the answer holds
+abbrev held : Totals → Option Totals → Totals
+held d (Some t) = t
+held d None = d
+
+abbrev some : Option Totals → Bool
+some (Some t) = true
+some None = false
+
+totalled : (start end : ℤ) (ss ts : List Section) → ts ≡ ss → SFits w64 start → SFits w64 end → figures_fit start end ss ≡ true
+    → line_totals (stored start) (stored end) ts ≡ Some (totals quarters start end ss)
+unfolding line_totals
+totalled start end ss ts s f g e =
+    stored_both (λ x y. line_totals x y ts) f g ∙ ap (line_totals start end) s ∙ ap (λ (t : Bool). cond t (Some (totals quarters start end ss)) None) e
+
+pub returns-in-Some : goal.returns-in-Some
+returns-in-Some c =
+    let b = c.args.b.now in
+    let start = b.line.opening.start.height in
+    let f : SFits w64 start = search rules in
+    let t = ap (held c.in-Some.t) (c.in-Some.ensures ∙ totalled start c.args.end (sections_of b.sections) c.listed.result.now (c.listed.ensures.sections c.requires.0) f c.ranges.end c.requires.1.0) in
+    c.check_totals.ensures ∙ (λ i. first_of (total_tests (c.terms_of.ensures i) (c.requires.1.1 i) (t i)))
+
+pub returns-in-None : goal.returns-in-None
+returns-in-None c =
+    let b = c.args.b.now in
+    let start = b.line.opening.start.height in
+    let f : SFits w64 start = search rules in
+    no_true (ap some (c.in-None.ensures ∙ totalled start c.args.end (sections_of b.sections) c.listed.result.now (c.listed.ensures.sections c.requires.0) f c.ranges.end c.requires.1.0))

@@ -1,0 +1,61 @@
+// Opening, a line or a spur: what its numbers name, and its refusals.
+ghost use Rattle.std.specs.Prelude.{◌≡◌};
+ghost use Rattle.records.specs.Refusals.{number_of};
+ghost use Rattle.rules.specs.LineState.{state_of};
+ghost use Rattle.rules.specs.code.Opened.{class_named, spur_named, instrument_named, start_refusal};
+
+use super::broken::line_broken;
+use super::refusals::check_number;
+use super::{Book, Stage};
+use adjust::terms::Class;
+use records::Refusal;
+use station::Instrument;
+
+// The class of a line of this order; none where there is no such order.
+pub fn class_named(order: i64) -> Option<Class>
+    ensures { result ≡ class_named order }
+{
+    match order {
+        3 => Some(Class::Third),
+        4 => Some(Class::Fourth),
+        _ => None,
+    }
+}
+
+// And of a spur, which is of fourth order.
+pub fn spur_named(order: i64) -> Option<Class>
+    ensures { result ≡ spur_named order }
+{
+    match order {
+        4 => Some(Class::Spur),
+        _ => None,
+    }
+}
+
+// 3 for DS3, 1 for DS1 and DS05.
+pub fn instrument_named(number: i64) -> Option<Instrument>
+    ensures { result ≡ instrument_named number }
+{
+    match number {
+        3 => Some(Instrument::Ds3),
+        1 => Some(Instrument::Ds1),
+        _ => None,
+    }
+}
+
+// Of the start's number and height, and of the book.
+pub fn check_start(b: &Book, number: i64, height: i64) -> Result<(), Refusal>
+    ensures { number_of result ≡ start_refusal (state_of b.now) number height }
+{
+    check_number(number)?;
+    if !adjust::height_in_range(height) {
+        return Err(Refusal::KnownHeight);
+    }
+    if line_broken(b) {
+        return Err(Refusal::Broken);
+    }
+    if b.line.stage != Stage::Fresh {
+        return Err(Refusal::Stage);
+    }
+    Ok(())
+}
