@@ -9,7 +9,7 @@ use lib.ListN.{get_or}
 use Rattle.std.specs.Prelude.{Ok, Err, IfOk}
 use Rattle.std.specs.declared.result.Result.{Result}
 use Rattle.records.specs.declared.Refusal.{Refusal}
-use Rattle.records.specs.declared.Refusal.TheVariants.{NotARecord, BadField, OrderOrInstrument, BenchmarkNumber, KnownHeight, Reading, Constants, ThreadOrder, TextTooLong, ReportRoom, SectionCount, SectionRange, HeightRoom, Broken, Stage, RunFull, StaffTurn, Sight, SightDifference, AccumulatedDifference, FaceDifference, HeightByFaces, StationCount, BenchmarkPlace, BookFull, Discrepancy, Unfinished, ClosingBenchmark, LineLength, Closure, ClosingKind, CollimationRange, Collimation, NotTested}
+use Rattle.records.specs.declared.Refusal.TheVariants.{NotARecord, BadField, OrderOrInstrument, BenchmarkNumber, KnownHeight, Reading, Constants, ThreadOrder, TextTooLong, ReportRoom, SectionCount, SectionRange, HeightRoom, Broken, Stage, RunFull, StaffTurn, Sight, SightDifference, AccumulatedDifference, FaceDifference, HeightByFaces, StationCount, BenchmarkPlace, BookFull, Discrepancy, Unfinished, ClosingBenchmark, LineLength, Closure, ClosingKind, CollimationRange, Collimation, NotCollimated}
 use Rattle.records.specs.Refusals.{refusal_number, number_of}
 
 -- each refusal at its number; a place whose number no refusal has holds another
@@ -52,7 +52,7 @@ numbered =
     ∷ NotARecord ∷ NotARecord
     ∷ CollimationRange
     ∷ Collimation
-    ∷ NotTested ∷ []
+    ∷ NotCollimated ∷ []
 
 abbrev pub refusal_of : ℕ → Refusal
 refusal_of n = get_or numbered n NotARecord
@@ -91,7 +91,7 @@ read_back Closure = refl
 read_back ClosingKind = refl
 read_back CollimationRange = refl
 read_back Collimation = refl
-read_back NotTested = refl
+read_back NotCollimated = refl
 
 -- no refusal has the number of a call that is taken
 pub not_zero : (e : Refusal) → refusal_number e ≡ 0 → ⊥

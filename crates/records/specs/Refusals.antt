@@ -2,7 +2,7 @@
 use Rattle.std.specs.Prelude.{ℕ, Ok, Err}
 use Rattle.std.specs.declared.result.Result.{Result}
 use Rattle.records.specs.declared.Refusal.{Refusal}
-use Rattle.records.specs.declared.Refusal.TheVariants.{NotARecord, BadField, OrderOrInstrument, BenchmarkNumber, KnownHeight, Reading, Constants, ThreadOrder, TextTooLong, ReportRoom, SectionCount, SectionRange, HeightRoom, Broken, Stage, RunFull, StaffTurn, Sight, SightDifference, AccumulatedDifference, FaceDifference, HeightByFaces, StationCount, BenchmarkPlace, BookFull, Discrepancy, Unfinished, ClosingBenchmark, LineLength, Closure, ClosingKind, CollimationRange, Collimation, NotTested}
+use Rattle.records.specs.declared.Refusal.TheVariants.{NotARecord, BadField, OrderOrInstrument, BenchmarkNumber, KnownHeight, Reading, Constants, ThreadOrder, TextTooLong, ReportRoom, SectionCount, SectionRange, HeightRoom, Broken, Stage, RunFull, StaffTurn, Sight, SightDifference, AccumulatedDifference, FaceDifference, HeightByFaces, StationCount, BenchmarkPlace, BookFull, Discrepancy, Unfinished, ClosingBenchmark, LineLength, Closure, ClosingKind, CollimationRange, Collimation, NotCollimated}
 
 abbrev pub refusal_number : Refusal → ℕ
 refusal_number NotARecord = 1
@@ -38,7 +38,7 @@ refusal_number Closure = 36
 refusal_number ClosingKind = 41
 refusal_number CollimationRange = 44
 refusal_number Collimation = 45
-refusal_number NotTested = 46
+refusal_number NotCollimated = 46
 
 -- the number of an answer, 0 for a call that is taken
 abbrev pub number_of : {A : Type 0} → Result A Refusal → ℕ

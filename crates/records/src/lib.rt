@@ -104,7 +104,7 @@ pub enum Refusal {
     // an i angle beyond its limit, or a second test taken on a line
     Collimation,
     // a station before a collimation test was taken
-    NotTested,
+    NotCollimated,
 }
 
 impl Refusal {
@@ -146,7 +146,7 @@ impl Refusal {
             Refusal::ClosingKind => 41,
             Refusal::CollimationRange => 44,
             Refusal::Collimation => 45,
-            Refusal::NotTested => 46,
+            Refusal::NotCollimated => 46,
         }
     }
 }

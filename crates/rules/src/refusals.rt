@@ -56,7 +56,7 @@ fn check_station_on(line: &Line, shut: bool, kb: i64, f: &Figures) -> Result<(),
         return Err(Refusal::Stage);
     }
     if !opening.collimated {
-        return Err(Refusal::NotTested);
+        return Err(Refusal::NotCollimated);
     }
     if 200 <= line.present.count {
         return Err(Refusal::RunFull);

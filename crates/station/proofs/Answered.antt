@@ -3,7 +3,7 @@ use Rattle.std.proofs.Common.{◌≡◌, refl, sym, ap, ◌∙◌, List, [], ◌
 use Rattle.std.specs.Prelude.{Ok, Err}
 use Rattle.std.specs.declared.result.Result.{Result}
 use Rattle.records.specs.declared.Refusal.{Refusal}
-use Rattle.records.specs.declared.Refusal.TheVariants.{NotARecord, BadField, OrderOrInstrument, BenchmarkNumber, KnownHeight, Reading, Constants, ThreadOrder, TextTooLong, ReportRoom, SectionCount, SectionRange, HeightRoom, Broken, Stage, RunFull, StaffTurn, Sight, SightDifference, AccumulatedDifference, FaceDifference, HeightByFaces, StationCount, BenchmarkPlace, BookFull, Discrepancy, Unfinished, ClosingBenchmark, LineLength, Closure, ClosingKind, CollimationRange, Collimation, NotTested}
+use Rattle.records.specs.declared.Refusal.TheVariants.{NotARecord, BadField, OrderOrInstrument, BenchmarkNumber, KnownHeight, Reading, Constants, ThreadOrder, TextTooLong, ReportRoom, SectionCount, SectionRange, HeightRoom, Broken, Stage, RunFull, StaffTurn, Sight, SightDifference, AccumulatedDifference, FaceDifference, HeightByFaces, StationCount, BenchmarkPlace, BookFull, Discrepancy, Unfinished, ClosingBenchmark, LineLength, Closure, ClosingKind, CollimationRange, Collimation, NotCollimated}
 use Rattle.records.specs.Refusals.{refusal_number}
 use Rattle.station.specs.declared.Staffs.{Staffs}
 use Rattle.station.specs.declared.Figures.{Figures}
@@ -11,7 +11,7 @@ use Rattle.station.specs.Station.{station_of, figures_of, reading_refusal, Reads
 
 -- each refusal, at its number; the other places count for nothing
 abbrev numbered : List Refusal
-numbered = NotARecord ∷ NotARecord ∷ BadField ∷ OrderOrInstrument ∷ BenchmarkNumber ∷ KnownHeight ∷ Reading ∷ Constants ∷ ThreadOrder ∷ TextTooLong ∷ ReportRoom ∷ SectionCount ∷ SectionRange ∷ HeightRoom ∷ NotARecord ∷ NotARecord ∷ NotARecord ∷ NotARecord ∷ NotARecord ∷ NotARecord ∷ Broken ∷ Stage ∷ RunFull ∷ StaffTurn ∷ Sight ∷ SightDifference ∷ AccumulatedDifference ∷ FaceDifference ∷ HeightByFaces ∷ StationCount ∷ BenchmarkPlace ∷ BookFull ∷ Discrepancy ∷ Unfinished ∷ ClosingBenchmark ∷ LineLength ∷ Closure ∷ NotARecord ∷ NotARecord ∷ NotARecord ∷ NotARecord ∷ ClosingKind ∷ NotARecord ∷ NotARecord ∷ CollimationRange ∷ Collimation ∷ NotTested ∷ []
+numbered = NotARecord ∷ NotARecord ∷ BadField ∷ OrderOrInstrument ∷ BenchmarkNumber ∷ KnownHeight ∷ Reading ∷ Constants ∷ ThreadOrder ∷ TextTooLong ∷ ReportRoom ∷ SectionCount ∷ SectionRange ∷ HeightRoom ∷ NotARecord ∷ NotARecord ∷ NotARecord ∷ NotARecord ∷ NotARecord ∷ NotARecord ∷ Broken ∷ Stage ∷ RunFull ∷ StaffTurn ∷ Sight ∷ SightDifference ∷ AccumulatedDifference ∷ FaceDifference ∷ HeightByFaces ∷ StationCount ∷ BenchmarkPlace ∷ BookFull ∷ Discrepancy ∷ Unfinished ∷ ClosingBenchmark ∷ LineLength ∷ Closure ∷ NotARecord ∷ NotARecord ∷ NotARecord ∷ NotARecord ∷ ClosingKind ∷ NotARecord ∷ NotARecord ∷ CollimationRange ∷ Collimation ∷ NotCollimated ∷ []
 
 abbrev told : ℕ → Refusal
 told n = get_or numbered n NotARecord
@@ -50,7 +50,7 @@ told_number Closure = refl
 told_number ClosingKind = refl
 told_number CollimationRange = refl
 told_number Collimation = refl
-told_number NotTested = refl
+told_number NotCollimated = refl
 
 no_zero : (e : Refusal) → refusal_number e ≡ 0 → ⊥
 no_zero e z = let r : NotARecord ≡ e = sym (ap told z) ∙ told_number e in omega (arith, ap refusal_number r)
