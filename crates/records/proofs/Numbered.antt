@@ -5,18 +5,16 @@ use mathlib.Core.List.{List, [], ◌∷◌}
 use Prim.Native.Nat.{ℕ}
 use native.Mathlib.Omega.{arith}
 use lib.Dec.{T, eqb, eqb→eq}
-use lib.ListN.{get_or}
 use Rattle.std.specs.Prelude.{Ok, Err, IfOk}
 use Rattle.std.specs.declared.result.Result.{Result}
 use Rattle.records.specs.declared.Refusal.{Refusal}
 use Rattle.records.specs.declared.Refusal.TheVariants.{NotARecord, BadField, OrderOrInstrument, BenchmarkNumber, KnownHeight, Reading, Constants, ThreadOrder, TextTooLong, ReportRoom, SectionCount, SectionRange, HeightRoom, Broken, Stage, RunFull, StaffTurn, Sight, SightDifference, AccumulatedDifference, FaceDifference, HeightByFaces, StationCount, BenchmarkPlace, BookFull, Discrepancy, Unfinished, ClosingBenchmark, LineLength, Closure, ClosingKind, CollimationRange, Collimation, NotCollimated}
-use Rattle.records.specs.Refusals.{refusal_number, number_of}
+use Rattle.records.specs.Refusals.{refusal_number, number_of, NumbersApart, NoneIsZero}
 
--- each refusal at its number; a place whose number no refusal has holds another
-abbrev numbered : List Refusal
-numbered =
+-- all refusals
+abbrev every_refusal : List Refusal
+every_refusal =
     NotARecord
-    ∷ NotARecord
     ∷ BadField
     ∷ OrderOrInstrument
     ∷ BenchmarkNumber
@@ -29,7 +27,6 @@ numbered =
     ∷ SectionCount
     ∷ SectionRange
     ∷ HeightRoom
-    ∷ NotARecord ∷ NotARecord ∷ NotARecord ∷ NotARecord ∷ NotARecord ∷ NotARecord
     ∷ Broken
     ∷ Stage
     ∷ RunFull
@@ -47,15 +44,18 @@ numbered =
     ∷ ClosingBenchmark
     ∷ LineLength
     ∷ Closure
-    ∷ NotARecord ∷ NotARecord ∷ NotARecord ∷ NotARecord
     ∷ ClosingKind
-    ∷ NotARecord ∷ NotARecord
     ∷ CollimationRange
     ∷ Collimation
     ∷ NotCollimated ∷ []
 
+-- the first of them with the number n
+abbrev found : ℕ → List Refusal → Refusal
+found n [] = NotARecord
+found n (e ∷ es) = cond (eqb (refusal_number e) n) e (found n es)
+
 abbrev pub refusal_of : ℕ → Refusal
-refusal_of n = get_or numbered n NotARecord
+refusal_of n = found n every_refusal
 
 pub read_back : (e : Refusal) → refusal_of (refusal_number e) ≡ e
 read_back NotARecord = refl
@@ -93,8 +93,10 @@ read_back CollimationRange = refl
 read_back Collimation = refl
 read_back NotCollimated = refl
 
--- no refusal has the number of a call that is taken
-pub not_zero : (e : Refusal) → refusal_number e ≡ 0 → ⊥
+pub numbers_apart : NumbersApart
+numbers_apart d e h = sym (read_back d) ∙ ap refusal_of h ∙ read_back e
+
+pub not_zero : NoneIsZero
 not_zero e z = let r : NotARecord ≡ e = sym (ap refusal_of z) ∙ read_back e in omega (arith, ap refusal_number r)
 
 -- ---- an answer under a number

@@ -1,5 +1,5 @@
 -- The refusals and their numbers (documents 01 and 02), and the number of an answer.
-use Rattle.std.specs.Prelude.{ℕ, Ok, Err}
+use Rattle.std.specs.Prelude.{◌≡◌, ℕ, Ok, Err}
 use Rattle.std.specs.declared.result.Result.{Result}
 use Rattle.records.specs.declared.Refusal.{Refusal}
 use Rattle.records.specs.declared.Refusal.TheVariants.{NotARecord, BadField, OrderOrInstrument, BenchmarkNumber, KnownHeight, Reading, Constants, ThreadOrder, TextTooLong, ReportRoom, SectionCount, SectionRange, HeightRoom, Broken, Stage, RunFull, StaffTurn, Sight, SightDifference, AccumulatedDifference, FaceDifference, HeightByFaces, StationCount, BenchmarkPlace, BookFull, Discrepancy, Unfinished, ClosingBenchmark, LineLength, Closure, ClosingKind, CollimationRange, Collimation, NotCollimated}
@@ -39,6 +39,14 @@ refusal_number ClosingKind = 41
 refusal_number CollimationRange = 44
 refusal_number Collimation = 45
 refusal_number NotCollimated = 46
+
+-- no two refusals have one number
+abbrev pub NumbersApart : Type 0
+NumbersApart = (d e : Refusal) → refusal_number d ≡ refusal_number e → d ≡ e
+
+-- no refusal has the number of a call that is taken
+abbrev pub NoneIsZero : Type 0
+NoneIsZero = (e : Refusal) → refusal_number e ≡ 0 → ⊥
 
 -- the number of an answer, 0 for a call that is taken
 abbrev pub number_of : {A : Type 0} → Result A Refusal → ℕ

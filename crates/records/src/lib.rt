@@ -34,77 +34,77 @@ pub struct Record {
     pub values: [i64; 10],
 }
 
-// Why a call is refused, in the order of the numbers that the documents give these reasons (`number`).
+// Why a call is refused, under the number that the documents give the reason.
 #[derive(Clone, Copy, PartialEq, Eq)]
 pub enum Refusal {
     // a text line of the wrong shape or with an unknown tag; in a list of numbers an unknown kind, or too few numbers
-    NotARecord,
+    NotARecord = 1,
     // a field that is not a number
-    BadField,
+    BadField = 2,
     // an order or an instrument that a line cannot be opened with
-    OrderOrInstrument,
+    OrderOrInstrument = 3,
     // a benchmark's number outside its range
-    BenchmarkNumber,
+    BenchmarkNumber = 4,
     // a known height outside its range
-    KnownHeight,
+    KnownHeight = 5,
     // a reading outside its range
-    Reading,
+    Reading = 6,
     // constants that are not those of the two staffs
-    Constants,
+    Constants = 7,
     // threads that are not in order
-    ThreadOrder,
+    ThreadOrder = 8,
     // a text of more bytes than a book has
-    TextTooLong,
+    TextTooLong = 9,
     // a report buffer that is too small
-    ReportRoom,
+    ReportRoom = 10,
     // no section to adjust, or too many
-    SectionCount,
+    SectionCount = 11,
     // among them a height difference or a length outside its range
-    SectionRange,
+    SectionRange = 12,
     // a height list with too few places
-    HeightRoom,
+    HeightRoom = 13,
     // a record handed in as a book that no calls leave
-    Broken,
+    Broken = 20,
     // a call that the book's stage does not allow
-    Stage,
+    Stage = 21,
     // a run that has all the stations it can have
-    RunFull,
+    RunFull = 22,
     // a back staff that is not the one due
-    StaffTurn,
+    StaffTurn = 23,
     // a sight that is too long
-    Sight,
+    Sight = 24,
     // sights that differ too much
-    SightDifference,
+    SightDifference = 25,
     // differences of sights that add up to too much
-    AccumulatedDifference,
+    AccumulatedDifference = 26,
     // faces of a staff that disagree
-    FaceDifference,
+    FaceDifference = 27,
     // heights by black and by red that disagree
-    HeightByFaces,
+    HeightByFaces = 28,
     // the end of a run of no station or an odd number of them
-    StationCount,
+    StationCount = 29,
     // a benchmark that a run may not end on
-    BenchmarkPlace,
+    BenchmarkPlace = 30,
     // an outward run ended with all sections standing
-    BookFull,
+    BookFull = 31,
     // a section levelled out and back whose runs disagree
-    Discrepancy,
+    Discrepancy = 32,
     // a closing with stations or a run left over, or with no section
-    Unfinished,
+    Unfinished = 33,
     // a closing on another benchmark than the last, or of a loop on another height than its start's
-    ClosingBenchmark,
+    ClosingBenchmark = 34,
     // a line that is too long
-    LineLength,
+    LineLength = 35,
     // a closure beyond its limit
-    Closure,
+    Closure = 36,
     // END on a spur, or FIN on a line that is none
-    ClosingKind,
+    ClosingKind = 41,
     // a value of the collimation test outside its range
-    CollimationRange,
+    CollimationRange = 44,
     // an i angle beyond its limit, or a second test taken on a line
-    Collimation,
+    Collimation = 45,
     // a station before a collimation test was taken
-    NotCollimated,
+    NotCollimated = 46,
 }
 
 impl Refusal {
@@ -112,42 +112,7 @@ impl Refusal {
     pub fn number(self) -> u8
         ensures { result ≡ refusal_number self }
     {
-        match self {
-            Refusal::NotARecord => 1,
-            Refusal::BadField => 2,
-            Refusal::OrderOrInstrument => 3,
-            Refusal::BenchmarkNumber => 4,
-            Refusal::KnownHeight => 5,
-            Refusal::Reading => 6,
-            Refusal::Constants => 7,
-            Refusal::ThreadOrder => 8,
-            Refusal::TextTooLong => 9,
-            Refusal::ReportRoom => 10,
-            Refusal::SectionCount => 11,
-            Refusal::SectionRange => 12,
-            Refusal::HeightRoom => 13,
-            Refusal::Broken => 20,
-            Refusal::Stage => 21,
-            Refusal::RunFull => 22,
-            Refusal::StaffTurn => 23,
-            Refusal::Sight => 24,
-            Refusal::SightDifference => 25,
-            Refusal::AccumulatedDifference => 26,
-            Refusal::FaceDifference => 27,
-            Refusal::HeightByFaces => 28,
-            Refusal::StationCount => 29,
-            Refusal::BenchmarkPlace => 30,
-            Refusal::BookFull => 31,
-            Refusal::Discrepancy => 32,
-            Refusal::Unfinished => 33,
-            Refusal::ClosingBenchmark => 34,
-            Refusal::LineLength => 35,
-            Refusal::Closure => 36,
-            Refusal::ClosingKind => 41,
-            Refusal::CollimationRange => 44,
-            Refusal::Collimation => 45,
-            Refusal::NotCollimated => 46,
-        }
+        self as u8
     }
 }
 
