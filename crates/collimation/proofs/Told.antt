@@ -6,6 +6,9 @@ use lib.Dec.{eqb}
 use Rattle.numbers.specs.Tables.{first_of}
 use Rattle.numbers.proofs.Tests.{by_test, not-false}
 use Rattle.numbers.proofs.Tables.{failed}
+use Rattle.records.specs.declared.Refusal.{Refusal}
+use Rattle.records.specs.Refusals.{refusal_number}
+use Rattle.records.proofs.Numbered.{not_zero}
 use Rattle.collimation.specs.Collimation.{Collimation, in_range, within_angle, range_tests, angle_tests}
 
 pub in_range_lem : (c : Collimation) → first_of (range_tests c) ≡ 0 → in_range c ≡ true
@@ -18,3 +21,9 @@ angle_told c e = rw e refl
 pub angle_test : (c : Collimation) → in_range c ≡ true → eqb (first_of (angle_tests c)) 0 ≡ within_angle c
 angle_test c e =
     ap (λ (n : ℕ). eqb n 0) (angle_told c e) ∙ by_test (within_angle c) (λ t. eqb (cond (not t) 45 0) 0 ≡ t) (λ t. refl) (λ t. refl)
+
+-- a refusal of the ranges is that of the test
+pub range_refused : (c : Collimation) (e : Refusal) → refusal_number e ≡ first_of (range_tests c) → refusal_number e ≡ first_of (angle_tests c)
+range_refused c e h =
+    by_test (in_range c) (λ t. refusal_number e ≡ cond (not t) 44 0 → refusal_number e ≡ cond (not t) 44 (cond (not (within_angle c)) 45 0))
+    (λ t k. absurd (not_zero e k)) (λ t k. k) h

@@ -7,7 +7,6 @@ ghost use Rattle.records.specs.Refusals.{number_of};
 ghost use Rattle.collimation.specs.Collimation.{collimation_of, sums_in_range, distances_in_range, in_range, scaled_angle, within_angle, range_tests, angle_tests};
 
 use records::Refusal;
-use roots::limits::magnitude;
 
 // The sums of four readings on the staffs A and B, from I1 and from I2, and the distances of I2 to B and to A.
 #[derive(Clone, Copy)]
@@ -20,17 +19,19 @@ pub struct Collimation {
     pub d2: i64,
 }
 
-fn collimation_of(x: [i64; 6]) -> Collimation
-    ensures { result ≡ collimation_of x }
-{
-    let [a1, b1, a2, b2, d1, d2] = x;
-    Collimation {
-        a1,
-        b1,
-        a2,
-        b2,
-        d1,
-        d2,
+impl From<[i64; 6]> for Collimation {
+    ghost from_gives = { λ x r. r ≡ collimation_of x };
+
+    fn from(x: [i64; 6]) -> Collimation {
+        let [a1, b1, a2, b2, d1, d2] = x;
+        Collimation {
+            a1,
+            b1,
+            a2,
+            b2,
+            d1,
+            d2,
+        }
     }
 }
 
@@ -69,7 +70,7 @@ impl Collimation {
         ensures { result ≡ within_angle self.now }
     {
         let limit = 1600000000 * (self.d2 - self.d1);
-        magnitude(self.scaled_angle()) <= limit as u64
+        self.scaled_angle().unsigned_abs() <= limit as u64
     }
 }
 
@@ -77,7 +78,7 @@ impl Collimation {
 pub fn check_range(x: [i64; 6]) -> Result<(), Refusal>
     ensures { number_of result ≡ first_of (range_tests (collimation_of x)) }
 {
-    if collimation_of(x).in_range() {
+    if Collimation::from(x).in_range() {
         Ok(())
     } else {
         Err(Refusal::CollimationRange)
@@ -85,14 +86,12 @@ pub fn check_range(x: [i64; 6]) -> Result<(), Refusal>
 }
 
 // The refusal of values outside their ranges, or of an i angle above its limit: 44 or 45.
+#[tactic(auto, using(crate::proofs::Told::range_refused))]
 pub fn check_angle(x: [i64; 6]) -> Result<(), Refusal>
     ensures { number_of result ≡ first_of (angle_tests (collimation_of x)) }
 {
-    let test = collimation_of(x);
-    if !test.in_range() {
-        return Err(Refusal::CollimationRange);
-    }
-    if !test.within_angle() {
+    check_range(x)?;
+    if !Collimation::from(x).within_angle() {
         return Err(Refusal::Collimation);
     }
     Ok(())

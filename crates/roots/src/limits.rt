@@ -1,13 +1,6 @@
 // Root limits decided without a root: a * x * x <= b * l over whole numbers, for every a, x, b and l.
-ghost use Rattle.std.specs.Prelude.{◌≡◌, nat_abs};
+ghost use Rattle.std.specs.Prelude.{◌≡◌};
 ghost use Rattle.roots.specs.Limit.{is_within};
-
-// The magnitude of x, which for the least i64 is 2^63.
-pub fn magnitude(x: i64) -> u64
-    ensures { result ≡ nat_abs x }
-{
-    x.unsigned_abs()
-}
 
 // Whether a * x * x is at most b * l. A left side of more than 128 bits becomes the largest number of 128 bits, which is above every b * l too.
 pub fn within(a: u16, x: i64, b: u16, l: i64) -> bool
@@ -16,7 +9,7 @@ pub fn within(a: u16, x: i64, b: u16, l: i64) -> bool
     if b > 0 && l < 0 {
         return false;
     }
-    let m = u128::from(magnitude(x));
-    let limit = u128::from(b) * u128::from(magnitude(l));
+    let m = u128::from(x.unsigned_abs());
+    let limit = u128::from(b) * u128::from(l.unsigned_abs());
     u128::from(a).saturating_mul(m * m) <= limit
 }

@@ -10,7 +10,6 @@ ghost use Rattle.station.specs.code.Bounds.{SmallSighting, Small};
 ghost use Rattle.station.specs.Station.{staff_of, station_of, sighting_of, twice_height, figures_of, readings_in_range, threads_in_order, constants_paired, reading_tests, Reads, scale_of, constant_of, sight_limit, limits_of, limit_tests};
 
 use records::Refusal;
-use roots::limits::magnitude;
 
 #[derive(Clone, Copy, PartialEq, Eq)]
 pub enum Order {
@@ -75,29 +74,6 @@ pub struct Figures {
     pub height: i64,
 }
 
-fn staff_of(k: i64, t: [i64; 4]) -> Staff
-    ensures { result ≡ staff_of k t }
-{
-    let [upper, lower, black, red] = t;
-    Staff {
-        constant: k,
-        upper,
-        lower,
-        black,
-        red,
-    }
-}
-
-fn station_of(kb: i64, kf: i64, readings: [[i64; 4]; 2]) -> Station
-    ensures { result ≡ station_of kb kf readings }
-{
-    let [back, fore] = readings;
-    Station {
-        back: staff_of(kb, back),
-        fore: staff_of(kf, fore),
-    }
-}
-
 // The parts of a millimetre in which the constants are given: 1 or 10.
 pub fn scale_of(staffs: Staffs) -> u64
     ensures { result ≡ scale_of staffs }
@@ -126,6 +102,19 @@ fn constant_of(staffs: Staffs, k: i64) -> i64
 }
 
 impl Staff {
+    fn new(constant: i64, readings: [i64; 4]) -> Staff
+        ensures { result ≡ staff_of constant readings }
+    {
+        let [upper, lower, black, red] = readings;
+        Staff {
+            constant,
+            upper,
+            lower,
+            black,
+            red,
+        }
+    }
+
     fn in_range(&self) -> bool
         ensures { result ≡ readings_in_range self.now }
     {
@@ -156,6 +145,16 @@ impl Staff {
 }
 
 impl Station {
+    fn new(kb: i64, kf: i64, readings: [[i64; 4]; 2]) -> Station
+        ensures { result ≡ station_of kb kf readings }
+    {
+        let [back, fore] = readings;
+        Station {
+            back: Staff::new(kb, back),
+            fore: Staff::new(kf, fore),
+        }
+    }
+
     fn is_paired(&self) -> bool
         ensures { result ≡ constants_paired self.now }
     {
@@ -214,7 +213,7 @@ pub fn read(staffs: Staffs, kb: i64, kf: i64, readings: [[i64; 4]; 2]) -> Result
     ensures reads { Reads staffs kb kf readings result }
     ensures small { IfOk result (λ f. Small f) }
 {
-    let station = station_of(kb, kf, readings);
+    let station = Station::new(kb, kf, readings);
     station.check_readings()?;
     Ok(station.figures(staffs))
 }
@@ -256,7 +255,7 @@ fn limits_of(order: Order, instrument: Instrument, staffs: Staffs) -> Limits
 fn is_within(x: i64, limit: u64) -> bool
     ensures { result ≡ within x limit }
 {
-    magnitude(x) <= limit
+    x.unsigned_abs() <= limit
 }
 
 // Whether both numbers are within the limit.

@@ -40,6 +40,6 @@ unfolding within_angle
 returns c =
     let x = c.args.self.now in
     let f : SFits w64 c.scaled_angle.result = record { sfits = c.scaled_angle.type_inv } in
-    let angle = c.magnitude.ensures ∙ ap nat_abs (stored_id f ∙ c.scaled_angle.ensures) in
+    let angle = c.unsigned_abs.ensures.value ∙ ap nat_abs (stored_id f ∙ c.scaled_angle.ensures) in
     (λ i. leb (angle i) (nat_abs ((kept (limit (small x c.requires)) tt).is i)))
     ∙ as_limit x (limit_from_zero x c.requires) (nat_abs (scaled_angle x))
