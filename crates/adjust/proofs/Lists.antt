@@ -1,6 +1,6 @@
 -- Sections in the wider range, one and all, and a point for each.
 use mathlib.Core.Path.{◌≡◌, refl, ap}
-use mathlib.Core.Bool.{Bool, true, ◌&&◌, ◌||◌}
+use mathlib.Core.Bool.{true, ◌&&◌}
 use mathlib.Core.List.{List, [], ◌∷◌}
 use Prim.Native.Nat.{suc, ◌≤◌}
 use native.Mathlib.Omega.{arith}
@@ -8,9 +8,7 @@ use lib.ListN.{length}
 use lib.IntN.{ℤ, pos, nat_abs, ◌+ℤ◌}
 use lib.Signed.{◌≤ℤ◌, le_z}
 use borrow.Author.Tests.{le-leb}
-use Rattle.std.specs.List.{list_any}
-use Rattle.std.proofs.lemmas.Bool.Decides.{nat_tests}
-use Rattle.numbers.specs.Numbers.{any_of, within, between}
+use Rattle.numbers.specs.Numbers.{within, between}
 use Rattle.numbers.proofs.Tests.{and_l, and_r}
 use Rattle.numbers.proofs.All.{All, all_head, all_tail, all_weaken}
 use Rattle.numbers.proofs.Parts.{ints, parts_abs, test_le}
@@ -21,14 +19,6 @@ use Rattle.adjust.specs.Sections.{leg_in_range, leg_fits, section_fits}
 use Rattle.adjust.specs.declared.Frame.{Frame}
 use Rattle.adjust.specs.Line.{printed_height, points_after}
 use Rattle.adjust.specs.code.Bounds.{LegBounds}
-
--- the library's word
-pub any_listed : (p : Section → Bool) (xs : List Section) → list_any p xs ≡ any_of p xs
-any_listed p [] = refl
-any_listed p (x ∷ xs) = ap (λ (t : Bool). p x || t) (any_listed p xs)
-
--- tests of sections, one and all
-pub ruleset counts = (any_listed, nat_tests)
 
 -- ---- sections in the wider range
 

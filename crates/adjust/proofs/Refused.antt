@@ -11,7 +11,6 @@ use Rattle.std.proofs.lemmas.Bool.Decides.{nat_tests}
 use Rattle.numbers.specs.Tables.{Lowest}
 use Rattle.numbers.proofs.Tables.{first_lowest}
 use Rattle.adjust.specs.declared.Section.{Section}
-use Rattle.adjust.proofs.Lists.{any_listed}
 use Rattle.adjust.specs.Call.{adjust_tests, adjust_rank, adjust_refusal}
 
 pub adjust_lowest : (start end : ℤ) (ss : List Section) (places : ℕ) → Lowest adjust_rank (adjust_tests start end ss places) (adjust_refusal start end ss places)
@@ -23,4 +22,4 @@ unfolding adjust_refusal
 too_many start end ss places h = rw (lt-leb (length ss) 64 h, lt-ltb 0 (length ss) (omega arith))
 
 -- the tests of sections, and the heights as the machine has them
-pub ruleset refusals = (any_listed, nat_tests, to_z-of_z)
+pub ruleset refusals = (nat_tests, to_z-of_z)

@@ -47,7 +47,7 @@ pub(crate) fn verdict_of(terms: Terms, count: usize, t: i64) -> Verdict
     requires { (count ≤ 64) × (nat_abs terms.accidental ≤ most_allowed) }
     ensures { result ≡ verdict terms count t }
 {
-    if !terms.double | (count < 20) {
+    if !terms.double || count < 20 {
         Verdict::NotGiven
     } else if t <= terms.accidental * count as i64 {
         Verdict::Within

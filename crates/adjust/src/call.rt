@@ -15,7 +15,7 @@ use records::Refusal;
 fn adjust_refusal(start: i64, end: i64, sections: &[Section], places: usize) -> Result<(), Refusal>
     ensures { number_of result ≡ adjust_refusal start end sections.now places }
 {
-    if sections.is_empty() | (64 < sections.len()) {
+    if sections.is_empty() || 64 < sections.len() {
         return Err(Refusal::SectionCount);
     }
     if places < sections.len() {
@@ -24,7 +24,7 @@ fn adjust_refusal(start: i64, end: i64, sections: &[Section], places: usize) -> 
     if any_out_of_range(sections) {
         return Err(Refusal::SectionRange);
     }
-    if !height_in_range(start) | !height_in_range(end) {
+    if !height_in_range(start) || !height_in_range(end) {
         return Err(Refusal::KnownHeight);
     }
     Ok(())

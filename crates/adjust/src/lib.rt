@@ -70,7 +70,7 @@ impl Sections {
     pub fn misfit(&self) -> bool
         ensures { result ≡ misfit (sections_of self.now) }
     {
-        (64 < self.count) | ranges::misfit(self.listed())
+        64 < self.count || ranges::misfit(self.listed())
     }
 }
 
@@ -87,9 +87,9 @@ pub struct Point {
 #[derive(Clone, Copy, Default, PartialEq, Eq)]
 pub enum Verdict {
     #[default]
-    NotGiven,
-    Within,
-    Above,
+    NotGiven = 0,
+    Within = 1,
+    Above = 2,
 }
 
 impl Verdict {
@@ -97,11 +97,7 @@ impl Verdict {
     pub fn number(self) -> u8
         ensures { result ≡ verdict_number self }
     {
-        match self {
-            Verdict::NotGiven => 0,
-            Verdict::Within => 1,
-            Verdict::Above => 2,
-        }
+        self as u8
     }
 }
 
@@ -148,7 +144,7 @@ pub struct Frame {
 pub fn height_in_range(h: i64) -> bool
     ensures { result ≡ height_in_range h }
 {
-    (-999999 <= h) & (h <= 8999999)
+    (-999999..=8999999).contains(&h)
 }
 
 // Whether there are 1 to 64 sections in the wider range, between heights in theirs: then all figures fit 64 bits.
@@ -156,7 +152,10 @@ pub fn height_in_range(h: i64) -> bool
 fn figures_fit(start: i64, end: i64, sections: &[Section]) -> bool
     ensures { result ≡ figures_fit start end sections.now }
 {
-    !sections.is_empty() & !ranges::misfit(sections) & height_in_range(start) & height_in_range(end)
+    !sections.is_empty()
+        && !ranges::misfit(sections)
+        && height_in_range(start)
+        && height_in_range(end)
 }
 
 // W and L of the sections between two known heights, where `figures_fit`.

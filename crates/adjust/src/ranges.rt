@@ -7,30 +7,29 @@ ghost use Rattle.adjust.specs.declared.Section.{Section};
 ghost use Rattle.adjust.specs.Sections.{leg_in_range, section_fits, misfit};
 
 use super::Section;
-use roots::limits::magnitude;
 
 impl Section {
     // Whether R is in its range, which is the same in both.
     fn has_length(&self) -> bool
         ensures { result ≡ between (pos 1) self.now.distance (pos most_r) }
     {
-        (1 <= self.distance) & (self.distance <= 1200000)
+        (1..=1200000).contains(&self.distance)
     }
 
     // Whether Q and R are in document 01's range.
     fn is_in_range(&self) -> bool
         ensures { result ≡ leg_in_range self.now }
     {
-        (magnitude(self.height) <= 2500000) & self.has_length()
+        self.height.unsigned_abs() <= 2500000 && self.has_length()
     }
 
     // Whether Q, R and D are in the wider one.
     fn fits(&self) -> bool
         ensures { result ≡ section_fits self.now }
     {
-        (magnitude(self.height) <= 50000000)
-            & self.has_length()
-            & (magnitude(self.discrepancy) <= 100000)
+        self.height.unsigned_abs() <= 50000000
+            && self.has_length()
+            && self.discrepancy.unsigned_abs() <= 100000
     }
 }
 
@@ -49,9 +48,8 @@ fn any_unfit(sections: &[Section]) -> bool
 }
 
 // Whether there are more than 64 sections, or one outside the wider range.
-#[tactic(auto, using(crate::proofs::Lists::counts))]
 pub(crate) fn misfit(sections: &[Section]) -> bool
     ensures { result ≡ misfit sections.now }
 {
-    (64 < sections.len()) | any_unfit(sections)
+    64 < sections.len() || any_unfit(sections)
 }

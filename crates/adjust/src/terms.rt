@@ -87,16 +87,3 @@ impl Class {
         }
     }
 }
-
-// The same as functions, by which the crates above call them.
-pub fn order_of(class: Class) -> Order
-    ensures { result ≡ order_of class }
-{
-    class.order()
-}
-
-pub fn terms_of(class: Class) -> Terms
-    ensures { result ≡ terms_of class }
-{
-    class.terms()
-}

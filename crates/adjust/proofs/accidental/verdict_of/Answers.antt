@@ -1,5 +1,5 @@
 -- `verdict_of`: what is allowed of T fits, so the machine's test of T is the plain one.
-use Rattle.std.proofs.Common.{◌≡◌, ℕ, ◌≤◌, Bool, false, cond, ◌||◌, ltb, sym, ◌∙◌}
+use Rattle.std.proofs.Common.{◌≡◌, ℕ, ◌≤◌, Bool, false, cond, ◌||◌, ltb, sym, ◌∙◌, rules}
 use mathlib.Core.Bool.{not}
 use lib.IntN.{ℤ, nat_abs, ◌*ℤ◌}
 use lib.Signed.{le_z}
@@ -21,7 +21,11 @@ by_tests terms n t h f e d =
     λ i. cond (sym e i) NotGiven (cond (sym plain i) Within Above)
 
 pub returns-then-t-terms : goal.returns-then-t-terms
-returns-then-t-terms c = by_tests c.args.terms c.args.count c.args.t c.requires c.ranges.t c.if-terms-count.false c.if-t-terms.true
+returns-then-t-terms c =
+    let e : not c.args.terms.double || ltb c.args.count 20 ≡ false = search rules in
+    by_tests c.args.terms c.args.count c.args.t c.requires c.ranges.t e c.if-t-terms.true
 
 pub returns-else-t-terms : goal.returns-else-t-terms
-returns-else-t-terms c = by_tests c.args.terms c.args.count c.args.t c.requires c.ranges.t c.if-terms-count.false c.if-t-terms.false
+returns-else-t-terms c =
+    let e : not c.args.terms.double || ltb c.args.count 20 ≡ false = search rules in
+    by_tests c.args.terms c.args.count c.args.t c.requires c.ranges.t e c.if-t-terms.false
