@@ -2,11 +2,10 @@
 use mathlib.Core.Path.{◌≡◌, refl, sym, ap, ◌∙◌}
 use mathlib.Core.List.{List, [], ◌∷◌, ◌++◌, append_assoc, append-nil}
 use Prim.Native.Nat.{ℕ, ◌+◌, ◌-◌, ◌≤◌, ◌<◌}
-use native.Mathlib.Nat.{add_assoc}
 use native.Mathlib.Numerals.{add-one}
 use native.Mathlib.Omega.{arith}
 use lib.ListN.{length, get_or, set, take, drop, length-append, length-take, length-drop, take-append-drop, drop_of_length-le}
-use lib.Seq.{length-take-le, take_all, take_at, drop_at, take-append-le, drop-append-add, take-take, take-suc, drop-cons, drop-drop, set_split, sets, sets-eq}
+use lib.Seq.{length-take-le, take_all, take_at, drop_at, drop-append-add, take-suc, drop-cons, drop-drop, set_split}
 use Rattle.numbers.specs.Numbers.{over, put_at, written}
 
 module _ {A : Type 0} where
@@ -57,29 +56,10 @@ module _ {A : Type 0} where
       ap (λ (x : List A). take (at + length s) x ++ over t (drop (at + length s) x)) (sym (append_assoc (take at d) s r))
       ∙ rw (take_at (take at d ++ s) r (at + length s) l, drop_at (take at d ++ s) r (at + length s) l, append_assoc (take at d) s, over_append s t (drop at d))
 
-  -- a list right before a list
-  pub put_before : (d : List A) (at : ℕ) (s t : List A) → at + length s ≤ length d → put_at (put_at d (at + length s) t) at s ≡ put_at d at (s ++ t)
-  unfolding put_at
-  put_before d at s t h =
-      let m = at + length s in
-      let l : length (take m d) ≡ m = length-take-le m d h in
-      let y = over t (drop m d) in
-      let a : at ≤ length (take m d) = omega arith in
-      let b : at ≤ m = omega arith in
-      rw (take-append-le at (take m d) y a, take-take at m d b, drop-drop (length s) at (take m d ++ y), drop_at (take m d) y m l, over_append s t (drop at d), drop-drop (length s) at d)
-
   -- a store is a list of one
   pub set_put : (d : List A) (i : ℕ) (x : A) → i < length d → set d i x ≡ put_at d i (x ∷ [])
   unfolding put_at
   set_put d i x h = set_split d i x h ∙ sym (rw (drop-drop 1 i d, add-one i))
-
-  -- a store right before a list
-  pub put_head : (d : List A) (i r : ℕ) (x : A) (s : List A) → i + 1 ≡ r → r + length s ≤ length d → set (put_at d r s) i x ≡ put_at d i (x ∷ s)
-  put_head d i r x s e h =
-      let l : length (put_at d r s) ≡ length d = length_put_at d r s h in
-      set_put (put_at d r s) i x (omega arith)
-      ∙ ap (λ (k : ℕ). put_at (put_at d k s) i (x ∷ [])) (sym e)
-      ∙ put_before d i (x ∷ []) s (omega arith)
 
   -- ---- what is left to write
 
@@ -87,31 +67,9 @@ module _ {A : Type 0} where
   pub put_cons : (d : List A) (at : ℕ) (x : A) (t : List A) → at < length d → put_at (set d at x) (at + 1) t ≡ put_at d at (x ∷ t)
   put_cons d at x t h = ap (λ (e : List A). put_at e (at + 1) t) (set_put d at x h) ∙ put_after d at (x ∷ []) t (omega arith)
 
-  -- stores one after the other, and then what follows them
-  pub put_stores : (d : List A) (at : ℕ) (s t : List A) → at + length s ≤ length d → put_at (sets d at s) (at + length s) t ≡ put_at d at (s ++ t)
-  unfolding put_at
-  put_stores d at s t h =
-      let stored : sets d at s ≡ put_at d at s =
-      sets-eq s d at h ∙ append_assoc (take at d) s (drop (at + length s) d) ∙ ap (λ (r : List A). take at d ++ (s ++ r)) (sym (drop-drop (length s) at d)) in
-      ap (λ (e : List A). put_at e (at + length s) t) stored ∙ put_after d at s t (omega arith)
-
-  -- a store, and then what stands before it
-  pub put_snoc : (d : List A) (at : ℕ) (s : List A) (i : ℕ) (x : A) → at + length s ≡ i → i < length d → put_at (set d i x) at s ≡ put_at d at (s ++ (x ∷ []))
-  put_snoc d at s i x e h =
-      ap (λ (l : List A). put_at l at s) (set_put d i x h ∙ ap (λ (k : ℕ). put_at d k (x ∷ [])) (sym e))
-      ∙ put_before d at s (x ∷ []) (omega arith)
-
   -- where nothing is left, all is written
   pub put_all : (d : List A) (at : ℕ) {rest whole : List A} → rest ≡ [] → put_at d at rest ≡ whole → d ≡ whole
   put_all d at e l = sym (put_none d at) ∙ ap (put_at d at) (sym e) ∙ l
-
-  -- a turn of a loop that copies s
-  pub put_next : (d : List A) (at : ℕ) (s : List A) (i : ℕ) (z : A) → at + i < length d → i < length s
-      → put_at (set d (at + i) (get_or s i z)) (at + (i + 1)) (drop (i + 1) s) ≡ put_at d (at + i) (drop i s)
-  put_next d at s i z h k =
-      ap (λ (m : ℕ). put_at (set d (at + i) (get_or s i z)) m (drop (i + 1) s)) (sym (add_assoc at i 1))
-      ∙ put_cons d (at + i) (get_or s i z) (drop (i + 1) s) h
-      ∙ ap (put_at d (at + i)) (sym (drop_next s i z k))
 
   -- ---- as far as there are places
 
@@ -124,14 +82,11 @@ module _ {A : Type 0} where
   pub written_long : (xs ys : List A) → length (written xs ys) ≡ length ys
   written_long xs ys = simp (length-append, length-drop, length-take) (omega arith)
 
-  -- one element more, in its place or past the last one
+  -- one element more
   pub written_set : (xs ys : List A) (x : A) → length xs < length ys → set (written xs ys) (length xs) x ≡ written (xs ++ (x ∷ [])) ys
   written_set xs ys x h =
       ap (λ (l : List A). set l (length xs) x) (written_fits xs ys (omega arith)) ∙ over_next xs ys x h
       ∙ sym (written_fits (xs ++ (x ∷ [])) ys (omega (arith, length-append xs (x ∷ []))))
-
-  pub written_past : (xs ys : List A) (x : A) → length ys ≤ length xs → written xs ys ≡ written (xs ++ (x ∷ [])) ys
-  written_past xs ys x h = ap (λ (l : List A). over l ys) (sym (take-append-le (length ys) xs (x ∷ []) h))
 
   -- the same of a list that is copied, whatever z is
   pub written_next : (xs ys : List A) (k : ℕ) (z : A) → k < length xs → k < length ys → set (written (take k xs) ys) k (get_or xs k z) ≡ written (take (k + 1) xs) ys
@@ -139,6 +94,3 @@ module _ {A : Type 0} where
       let l : length (take k xs) ≡ k = length-take-le k xs (omega arith) in
       ap (λ (n : ℕ). set (written (take k xs) ys) n (get_or xs k z)) (sym l) ∙ written_set (take k xs) ys (get_or xs k z) (omega arith)
       ∙ rw (add-one k, take-suc xs k z h)
-
-  pub written_over : (xs ys : List A) (k : ℕ) → length ys ≤ k → written (take k xs) ys ≡ written (take (k + 1) xs) ys
-  written_over xs ys k h = ap (λ (l : List A). over l ys) (take-take (length ys) k xs h ∙ sym (take-take (length ys) (k + 1) xs (omega arith)))

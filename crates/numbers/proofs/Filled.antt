@@ -6,7 +6,7 @@ use native.Mathlib.Omega.{arith}
 use lib.ListN.{length, get_or, set, take, drop, replicate, length-replicate}
 use lib.Seq.{take-append_seam}
 use Rattle.numbers.specs.Numbers.{filled}
-use Rattle.numbers.proofs.Arrays.{over_full, written_fits, written_long, written_set, written_next}
+use Rattle.numbers.proofs.Arrays.{written_fits, written_long, written_set, written_next}
 
 module _ {A : Type 0} (a : A) (n : ℕ) (xs : List A) where
   abbrev places : List A
@@ -21,10 +21,6 @@ module _ {A : Type 0} (a : A) (n : ℕ) (xs : List A) where
   -- a list copied one element further, whatever d is
   pub filled_next : (k : ℕ) (d : A) → k < length xs → k < n → set (filled a n (take k xs)) k (get_or xs k d) ≡ filled a n (take (k + 1) xs)
   filled_next k d h g = written_next xs places k d h (omega (arith, length-replicate n a))
-
-  -- a list as long as the array is the array
-  pub filled_full : length xs ≡ n → filled a n xs ≡ xs
-  filled_full e = written_fits xs places (omega (arith, length-replicate n a)) ∙ over_full xs places (omega (arith, length-replicate n a))
 
   -- the list itself is the array's front
   pub filled_take : length xs ≤ n → take (length xs) (filled a n xs) ≡ xs

@@ -1,7 +1,7 @@
 -- Signed machine numbers in proofs. A signed local holds bits, so each use of a value z reads it back, `stored z`; the laws here turn that into z,
 -- carry such equations through an operation, and say when a number fits 64 bits. Where all bounds are literals, `Chain` does this in one line a step.
 use mathlib.Core.Path.{◌≡◌, refl, sym, ap, subst, ◌∙◌}
-use mathlib.Core.Bool.{Bool, true, false, cond}
+use mathlib.Core.Bool.{Bool, true, false}
 use Prim.Native.Nat.{ℕ, ◌≤◌, ◌<◌}
 use native.Mathlib.Omega.{arith}
 use lib.Dec.{T}
@@ -27,11 +27,6 @@ stored_as e f = ap (λ (x : ℤ). to_z w64 (of_z w64 x)) e ∙ to_z-of_z f
 -- anything said of two such values
 pub stored_both : {A : Type 0} (f : ℤ → ℤ → A) {x y : ℤ} → SFits w64 x → SFits w64 y → f (to_z w64 (of_z w64 x)) (to_z w64 (of_z w64 y)) ≡ f x y
 stored_both f p q = λ i. f (to_z-of_z p i) (to_z-of_z q i)
-
--- a fact about two values, of what is read back
-pub holds_stored : (P : ℤ → ℤ → Type 0) {x y : ℤ} → SFits w64 x → SFits w64 y → P x y → P (to_z w64 (of_z w64 x)) (to_z w64 (of_z w64 y))
-holds_stored P {x} {y} p q h =
-    subst (λ (z : ℤ). P z (to_z w64 (of_z w64 y))) (sym (to_z-of_z p)) (subst (P x) (sym (to_z-of_z q)) h)
 
 -- ---- fits
 
@@ -87,9 +82,6 @@ lt_as e f = λ i. lt_z (e i) (f i)
 
 pub le_as : {a b x y : ℤ} → a ≡ x → b ≡ y → le_z a b ≡ le_z x y
 le_as e f = λ i. le_z (e i) (f i)
-
-pub cond_as : {b d : Bool} {a c x y : ℤ} → b ≡ d → a ≡ x → c ≡ y → cond b a c ≡ cond d x y
-cond_as e f g = λ i. cond (e i) (f i) (g i)
 
 pub bool_as : {b d : Bool} → b ≡ d → to_z w64 (bool_byte b) ≡ pos (bool_byte d)
 bool_as {d} e = ap (λ (x : Bool). to_z w64 (bool_byte x)) e ∙ cast_bool d

@@ -7,6 +7,7 @@ use borrow.Author.Tests.{le-leb}
 use lib.Dec.{ltb, ltb→lt, nltb→le, leb→le}
 use lib.IntN.{ℤ, pos, negsuc, neg_ℤ, nat_abs, sub_ℕ, ◌+ℤ◌, ◌-ℤ◌, ◌*ℤ◌}
 use lib.Signed.{◌≤ℤ◌, le_z}
+use Rattle.std.proofs.lemmas.Int.{unsigned_abs-mul}
 use Rattle.numbers.specs.Numbers.{within, between}
 use Rattle.numbers.proofs.Tests.{by_test, holds, and_l, and_r}
 use Rattle.numbers.proofs.Parts.{ints, parts_add, parts_sub, parts_abs, parts_eq, test_le, le_z_true}
@@ -37,10 +38,7 @@ abs_sub_pos a zero = omega arith
 abs_sub_pos a (suc b) = abs_subℕ a (suc b)
 
 pub abs_mul : (a b : ℤ) → nat_abs (a *ℤ b) ≡ nat_abs a * nat_abs b
-abs_mul (pos a) (pos b) = refl
-abs_mul (pos a) (negsuc b) = abs_neg (pos (a * suc b))
-abs_mul (negsuc a) (pos b) = abs_neg (pos (suc a * b))
-abs_mul (negsuc a) (negsuc b) = refl
+abs_mul a b = unsigned_abs-mul a b
 
 -- a square is its magnitude's
 pub square_abs : (a : ℤ) → a *ℤ a ≡ pos (nat_abs a * nat_abs a)
