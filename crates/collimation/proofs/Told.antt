@@ -1,8 +1,6 @@
 -- What the two refusals say: of values that 44 does not refuse, `angle_refusal` says whether the i angle is within its limit.
-use mathlib.Core.Path.{◌≡◌, refl, ap, ◌∙◌}
+use mathlib.Core.Path.{◌≡◌, refl}
 use mathlib.Core.Bool.{true, not, cond}
-use Prim.Native.Nat.{ℕ}
-use lib.Dec.{eqb}
 use Rattle.numbers.specs.Tables.{first_of}
 use Rattle.numbers.proofs.Tests.{by_test, not-false}
 use Rattle.numbers.proofs.Tables.{failed}
@@ -13,14 +11,6 @@ use Rattle.collimation.specs.Collimation.{Collimation, in_range, within_angle, r
 
 pub in_range_lem : (c : Collimation) → first_of (range_tests c) ≡ 0 → in_range c ≡ true
 in_range_lem c e = not-false (in_range c) (failed (range_tests c) refl e 44)
-
-pub angle_told : (c : Collimation) → in_range c ≡ true → first_of (angle_tests c) ≡ cond (not (within_angle c)) 45 0
-angle_told c e = rw e refl
-
--- as the test of that number reads
-pub angle_test : (c : Collimation) → in_range c ≡ true → eqb (first_of (angle_tests c)) 0 ≡ within_angle c
-angle_test c e =
-    ap (λ (n : ℕ). eqb n 0) (angle_told c e) ∙ by_test (within_angle c) (λ t. eqb (cond (not t) 45 0) 0 ≡ t) (λ t. refl) (λ t. refl)
 
 -- a refusal of the ranges is that of the test
 pub range_refused : (c : Collimation) (e : Refusal) → refusal_number e ≡ first_of (range_tests c) → refusal_number e ≡ first_of (angle_tests c)
