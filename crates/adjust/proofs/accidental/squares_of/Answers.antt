@@ -1,8 +1,7 @@
--- `squares_of`: t of one section more is added, and none is left at the end.
+-- `squares_of`: t of one section more is added.
 use Rattle.std.proofs.Common.{◌≡◌, List, ◌∷◌, ℕ, ◌+◌, ◌*◌, ◌≤◌, ◌<◌, true, length, get_or, drop, sym, ap, ◌∙◌, arith}
 use mathlib.Core.Path.{subst}
-use lib.ListN.{drop_of_length-le}
-use lib.IntN.{ℤ, nat_abs, ◌+ℤ◌, +ℤ_assoc, +ℤ_idr}
+use lib.IntN.{ℤ, nat_abs, ◌+ℤ◌, +ℤ_assoc}
 use mir.Syntax.{w64}
 use mir.Val.{SFits}
 use Rattle.numbers.specs.Numbers.{within}
@@ -56,9 +55,6 @@ module _ {n : ℕ} {ss : List Section} {k : ℕ} {t : ℤ} (here : k < length ss
       add (plain t {k = most_t * 63} (omega (arith, g.small)))
       (record { is = (known r {k = most_t} (omega (arith, ap nat_abs e, size)) tt).is ∙ e; size = size })
 
-all : {n : ℕ} {ss : List Section} {k : ℕ} {t : ℤ} → length ss ≤ k → Going n ss k t → t ≡ squares n ss
-all {n} {ss} {k} {t} past g = sym (+ℤ_idr t) ∙ sym (ap (λ (xs : List Section). t +ℤ squares n xs) (drop_of_length-le ss {i = k} past)) ∙ g.whole
-
 -- the parameter as it is read back
 one : {z : ℤ} → SFits w64 z → OneTo most_squared z → OneTo most_squared (stored z)
 one f h = subst (OneTo most_squared) (sym (stored_id f)) h
@@ -78,6 +74,3 @@ loop-x-preserved c =
     let some = one_some (one c.ranges.squared c.requires.0) in
     subst (Going (nat_abs (stored c.args.squared)) c.args.sections.now (c.loop-x.x-index + 1))
     (sym (kept (more here g some c.requires.1.few c.accidental-squares.result c.accidental-squares.ensures) tt).is) (next here g some)
-
-pub returns : goal.returns
-returns c = all (omega arith) c.loop-x.invariant ∙ ap (λ (z : ℤ). squares (nat_abs z) c.args.sections.now) (stored_id c.ranges.squared)

@@ -1,11 +1,10 @@
--- `sums_of`: one section more is added, and none is left at the end.
+-- `sums_of`: one section more is added.
 use Rattle.std.proofs.Common.{◌≡◌, List, ◌∷◌, ℕ, ◌+◌, ◌*◌, ◌≤◌, ◌<◌, length, get_or, drop, sym, ap, ◌∙◌, arith}
-use mathlib.Core.Path.{Path, subst}
-use lib.ListN.{drop_of_length-le}
-use lib.IntN.{ℤ, ◌+ℤ◌, +ℤ_assoc, +ℤ_idr}
+use mathlib.Core.Path.{subst}
+use lib.IntN.{ℤ, ◌+ℤ◌, +ℤ_assoc}
 use Rattle.numbers.proofs.Sizes.{abs_add}
 use Rattle.numbers.proofs.Machine.{stored}
-use Rattle.numbers.proofs.Chain.{Value, known, plain, add, fits, kept}
+use Rattle.numbers.proofs.Chain.{Value, known, plain, add, kept}
 use Rattle.numbers.proofs.Arrays.{drop_next}
 use Rattle.adjust.specs.declared.Section.{Section}
 use Rattle.adjust.specs.Sizes.{most_q, most_r, most_sum_q, most_l}
@@ -45,25 +44,9 @@ module _ {ss : List Section} {k : ℕ} {height distance : ℤ} (here : k < lengt
         distances = +ℤ_assoc distance x.distance (line_length (drop (k + 1) ss)) ∙ sym (ap (λ (xs : List Section). distance +ℤ line_length xs) rest) ∙ g.distances;
       }
 
-pub overflow_add-height : goal.overflow_add-height
-overflow_add-height c = fits (higher c.loop-x-test.true c.requires.few c.loop-x.invariant) tt
-
-pub overflow_add-distance : goal.overflow_add-distance
-overflow_add-distance c = fits (longer c.loop-x-test.true c.requires.few c.loop-x.invariant) tt
-
 pub loop-x-preserved : goal.loop-x-preserved
 loop-x-preserved c =
     let here = c.loop-x-test.true in
     let few = c.requires.few in
     let g = c.loop-x.invariant in
     subst (λ (t : ℤ × ℤ). Going c.args.sections.now (c.loop-x.x-index + 1) t.0 t.1) (λ i. (sym (kept (higher here few g) tt).is i, sym (kept (longer here few g) tt).is i)) (next here few g)
-
-all : {ss : List Section} {k : ℕ} {height distance : ℤ} → length ss ≤ k → Going ss k height distance → Path (ℤ × ℤ) (height, distance) (line_height ss, line_length ss)
-all {ss} {k} {height} {distance} past g =
-    let none = drop_of_length-le ss {i = k} past in
-    let h = sym (+ℤ_idr height) ∙ sym (ap (λ (xs : List Section). height +ℤ line_height xs) none) ∙ g.heights in
-    let d = sym (+ℤ_idr distance) ∙ sym (ap (λ (xs : List Section). distance +ℤ line_length xs) none) ∙ g.distances in
-    λ i. (h i, d i)
-
-pub returns : goal.returns
-returns c = all (omega arith) c.loop-x.invariant
