@@ -20,7 +20,8 @@ use Rattle.adjust.specs.Frames.{figures_fit, adjusted_of, line_figures}
 use Rattle.adjust.proofs.Holding.{sections_count}
 use Rattle.rules.specs.declared.Book.{Book}
 use Rattle.rules.specs.LineState.{LineState, state_of, is_closed, is_empty, is_return, line_broken}
-use Rattle.rules.specs.Rules.{close_line, close_spur, broken_in, figures_tests, book_refusal, taken}
+use Rattle.rules.specs.declared.call.Call.TheVariants.{CloseLine as close_line, CloseSpur as close_spur}
+use Rattle.rules.specs.Rules.{broken_in, figures_tests, book_refusal, taken}
 use Rattle.rules.specs.code.Closed.{closing_on}
 use Rattle.rules.proofs.Tables.{book_fails}
 use Rattle.rules.proofs.Unbroken.{unbroken, some_long, closed_some}

@@ -27,7 +27,9 @@ use Rattle.rules.specs.declared.Outward.{Outward}
 use Rattle.rules.specs.declared.Line.{Line}
 use Rattle.rules.specs.declared.Book.{Book}
 use Rattle.rules.specs.LineState.{LineState, state_of, book_with, is_fresh, is_return, outward_or_return, no_run, one_way, both_ways}
-use Rattle.rules.specs.Rules.{Call, open_line, station, end_run, drop_run, drop_section, close_line, open_spur, close_spur, collimation, with_runs, with_section, figures_tests, book_tests, book_refusal, taken}
+use Rattle.rules.specs.declared.call.Call.{Call}
+use Rattle.rules.specs.declared.call.Call.TheVariants.{OpenLine as open_line, Station as station, EndRun as end_run, DropRun as drop_run, DropSection as drop_section, CloseLine as close_line, OpenSpur as open_spur, CloseSpur as close_spur, Collimation as collimation}
+use Rattle.rules.specs.Rules.{with_runs, with_section, figures_tests, book_tests, book_refusal, taken}
 use Rattle.rules.proofs.Tables.{book_fails, line_unbroken}
 use Rattle.rules.proofs.Unbroken.{SmallWaiting, fresh_none}
 use Rattle.changes.specs.declared.Change.{Change}

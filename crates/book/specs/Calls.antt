@@ -16,7 +16,8 @@ use Rattle.adjust.specs.Frames.{adjusted_of}
 use Rattle.rules.specs.declared.Stage.TheVariants.{Fresh}
 use Rattle.rules.specs.declared.Book.{Book}
 use Rattle.rules.specs.LineState.{LineState, state_of, book_with, no_run}
-use Rattle.rules.specs.Rules.{Call, figures_tests, book_refusal, taken}
+use Rattle.rules.specs.declared.call.Call.{Call}
+use Rattle.rules.specs.Rules.{figures_tests, book_refusal, taken}
 use Rattle.book.specs.declared.Outcome.{Outcome}
 
 abbrev pub fresh_book : Book

@@ -5,18 +5,19 @@ ghost use Rattle.adjust.specs.Sections.{sections_of};
 ghost use Rattle.adjust.specs.Line.{closing};
 ghost use Rattle.adjust.specs.Frames.{figures_fit, adjusted_of};
 ghost use Rattle.rules.specs.LineState.{state_of};
-ghost use Rattle.rules.specs.Rules.{open_line, station, end_run, drop_run, drop_section, close_line, open_spur, close_spur, collimation, book_refusal};
-ghost use Rattle.rules.specs.Records.{call_of};
+ghost use Rattle.rules.specs.declared.call.Call.TheVariants.{OpenLine as open_line, Station as station, EndRun as end_run, DropRun as drop_run, DropSection as drop_section, CloseLine as close_line, OpenSpur as open_spur, CloseSpur as close_spur, Collimation as collimation};
+ghost use Rattle.rules.specs.Rules.{book_refusal};
 ghost use Rattle.book.specs.Calls.{book_after, Answers, Closes, Tells};
 ghost use Rattle.book.specs.code.Made.{Makes};
 
 use super::Outcome;
 use adjust::{LineFigures, Section};
 use changes::Change;
-use changes::decisions::{collimation_change, decide, station_change};
+use changes::decisions::decide;
 use changes::storing::store;
-use records::{Record, Refusal, Tag};
+use records::Refusal;
 use rules::Book;
+use rules::call::Call;
 use rules::closing::check_figures;
 
 // A change that was decided, made of the book in its place.
@@ -28,87 +29,88 @@ fn make(book: &mut Book, decided: Result<Change, Refusal>) -> Result<(), Refusal
     Ok(())
 }
 
-// One record of a line's book, on the book in its place, which a refused record leaves as it is.
+// A call of a book, on the book in its place, which a refused call leaves as it is.
 #[tactic(auto, using(crate::proofs::Joined::made))]
-pub fn enter(book: &mut Book, asked: &Record) -> Result<(), Refusal>
-    ensures number { number_of result ≡ book_refusal (state_of book.old) (call_of asked.now.tag asked.now.values) }
-    ensures book { book.new ≡ book_after book.old (call_of asked.now.tag asked.now.values) }
+pub fn enter(book: &mut Book, call: &Call) -> Result<(), Refusal>
+    ensures number { number_of result ≡ book_refusal (state_of book.old) call.now }
+    ensures book { book.new ≡ book_after book.old call.now }
 {
-    let decided = decide(book, asked);
+    let decided = decide(book, call);
     make(book, decided)
 }
 
 // The same of a book by value: what any call answers and leaves, whatever its numbers.
-pub fn take(b: Book, asked: Record) -> Outcome<()>
-    ensures { Answers b (call_of asked.tag asked.values) result }
+pub fn take(b: Book, call: Call) -> Outcome<()>
+    ensures { Answers b call result }
 {
     let mut book = b;
-    let answer = enter(&mut book, &asked);
+    let answer = enter(&mut book, &call);
     Outcome { answer, book }
-}
-
-// A call by the tag and the numbers of its record.
-fn call(b: Book, tag: Tag, values: [i64; 10]) -> Outcome<()>
-    ensures { Answers b (call_of tag values) result }
-{
-    take(b, Record { tag, values })
 }
 
 // Open the line: order 3 or 4, instrument 3 for DS3 or 1 for DS1 and DS05, the start's number and its height in mm.
 pub fn open(b: Book, order: i64, instrument: i64, number: i64, height: i64) -> Outcome<()>
     ensures { Answers b (open_line order instrument number height) result }
 {
-    let values = [order, instrument, number, height, 0, 0, 0, 0, 0, 0];
-    call(b, Tag::Lin, values)
+    take(
+        b,
+        Call::OpenLine {
+            order,
+            instrument,
+            number,
+            height,
+        },
+    )
 }
 
 // Open a spur, levelled out and back from the start to an end that is not known: order 4, else as a line.
 pub fn open_spur(b: Book, order: i64, instrument: i64, number: i64, height: i64) -> Outcome<()>
     ensures { Answers b (open_spur order instrument number height) result }
 {
-    let values = [order, instrument, number, height, 0, 0, 0, 0, 0, 0];
-    call(b, Tag::Spr, values)
+    take(
+        b,
+        Call::OpenSpur {
+            order,
+            instrument,
+            number,
+            height,
+        },
+    )
 }
 
 // The collimation test of the level: A1, B1, A2, B2, each the sum of four readings, and the distances D1 and D2, all in mm.
-#[tactic(auto, using(crate::proofs::Joined::made))]
 pub fn collimation(b: Book, x: [i64; 6]) -> Outcome<()>
     ensures { Answers b (collimation x) result }
 {
-    let mut book = b;
-    let answer = make(&mut book, collimation_change(&b, x));
-    Outcome { answer, book }
+    take(b, Call::Collimation { values: x })
 }
 
 // A station: the constants and the readings, back and fore.
 pub fn station(b: Book, kb: i64, kf: i64, readings: [[i64; 4]; 2]) -> Outcome<()>
     ensures { Answers b (station kb kf readings) result }
 {
-    let mut book = b;
-    let answer = make(&mut book, station_change(&b, kb, kf, readings));
-    Outcome { answer, book }
+    take(b, Call::Station { kb, kf, readings })
 }
 
 // End the present run on a benchmark.
 pub fn end_run(b: Book, number: i64) -> Outcome<()>
     ensures { Answers b (end_run number) result }
 {
-    let values = [number, 0, 0, 0, 0, 0, 0, 0, 0, 0];
-    call(b, Tag::Run, values)
+    take(b, Call::EndRun { number })
 }
 
 // Empty the present run.
 pub fn drop_run(b: Book) -> Outcome<()>
     ensures { Answers b drop_run result }
 {
-    call(b, Tag::Drr, [0; 10])
+    take(b, Call::DropRun)
 }
 
 // Empty the present run and what waits for its return.
 pub fn drop_section(b: Book) -> Outcome<()>
     ensures { Answers b drop_section result }
 {
-    call(b, Tag::Drs, [0; 10])
+    take(b, Call::DropSection)
 }
 
 // The figures of a closed book whose figures fit.
@@ -139,16 +141,14 @@ fn closed(taken: Outcome<()>) -> Outcome<LineFigures>
 pub fn close_line(b: Book, number: i64, end: i64) -> Outcome<LineFigures>
     ensures { Closes b (close_line number end) result }
 {
-    let values = [number, end, 0, 0, 0, 0, 0, 0, 0, 0];
-    closed(call(b, Tag::End, values))
+    closed(take(b, Call::CloseLine { number, end }))
 }
 
 // Close the spur on its last benchmark. W is 0, and the heights are start plus running Q, rounded to even.
 pub fn close_spur(b: Book, number: i64) -> Outcome<LineFigures>
     ensures { Closes b (close_spur number) result }
 {
-    let values = [number, 0, 0, 0, 0, 0, 0, 0, 0, 0];
-    closed(call(b, Tag::Fin, values))
+    closed(take(b, Call::CloseSpur { number }))
 }
 
 // The figures of a closed book once more. A book that is not closed is refused, and a broken one.

@@ -14,7 +14,7 @@ use Rattle.std.specs.declared.option.Option.{Option}
 use Rattle.std.specs.declared.result.Result.{Result}
 use Rattle.numbers.specs.Numbers.{eq_z}
 use Rattle.numbers.specs.Tables.{first_of}
-use Rattle.numbers.proofs.Machine.{stored, stored_both}
+use Rattle.numbers.proofs.Machine.{stored, stored_id, stored_both}
 use Rattle.numbers.proofs.Tables.{first_append, zero_cond, nonzero_cond}
 use Rattle.records.specs.declared.Refusal.{Refusal}
 use Rattle.records.specs.Refusals.{refusal_number, number_of}
@@ -29,7 +29,9 @@ use Rattle.adjust.specs.Sections.{sections_of}
 use Rattle.adjust.proofs.Holding.{sections_count}
 use Rattle.rules.specs.declared.Book.{Book}
 use Rattle.rules.specs.LineState.{state_of}
-use Rattle.rules.specs.Rules.{Call, open_line, open_spur, station, end_run, class_of, instrument_of, broken, input_tests, state_tests, book_station_tests, book_refusal}
+use Rattle.rules.specs.declared.call.Call.{Call}
+use Rattle.rules.specs.declared.call.Call.TheVariants.{OpenLine as open_line, OpenSpur as open_spur, Station as station, EndRun as end_run}
+use Rattle.rules.specs.Rules.{class_of, instrument_of, broken, input_tests, state_tests, book_station_tests, book_refusal}
 use Rattle.rules.specs.code.Bounds.{SmallRuns}
 use Rattle.rules.specs.code.Opened.{class_named, spur_named, instrument_named, start_refusal, open_refusal}
 use Rattle.rules.proofs.Tables.{tables, line_unbroken}
@@ -84,24 +86,36 @@ module _ (b : Book) (number height : ℤ) where
       go false true = refl
       go false false = refl
 
-  -- with what the two numbers o and k name
+  -- a call c that opens, by what its two numbers name: a class where s, an instrument where t
+  opens : (c : Call) (s t : Bool) (class : Class) (z : Instrument) {y : Option Class} {k : Option Instrument} (r : Result Change Refusal)
+      → book_refusal (state_of b) c ≡ cond (not (s && t)) 3 (start_refusal (state_of b) number height)
+      → effect_of b.line c ≡ opened class z number height
+      → y ≡ cond s (Some class) None → k ≡ cond t (Some z) None → Opens y k r → Decides b c r
+  opens c s t class z r n e p q h =
+      let d = by_names s t class z r (subst (λ (x : Option Class × Option Instrument). Opens x.0 x.1 r) (λ i. (p i, q i)) h) in
+      record { number = d.0 ∙ sym n; change = changes r d.1 }
+    where
+      changes : (r : Result Change Refusal) → IfOk r (λ (x : Change). x ≡ opened class z number height) → IfOk r (λ (x : Change). x ≡ effect_of b.line c)
+      changes (Ok x) f = f ∙ sym e
+      changes (Err x) f = tt
+
   pub opens_line : (o k : ℤ) {y : Option Class} {z : Option Instrument} (r : Result Change Refusal) → y ≡ class_named o → z ≡ instrument_named k → Opens y z r
       → Decides b (open_line o k number height) r
   unfolding book_refusal effect_of
-  opens_line o k r p q h =
-      let d =
-      by_names (eq_z o (pos 3) || eq_z o (pos 4)) (eq_z k (pos 1) || eq_z k (pos 3)) (class_of o) (instrument_of k) r
-      (subst (λ (n : Option Class × Option Instrument). Opens n.0 n.1 r) (λ i. ((p ∙ line_class o) i, (q ∙ instrument k) i)) h) in
-      record { number = d.0; change = d.1 }
+  opens_line o k r p q =
+      opens (open_line o k number height) (eq_z o (pos 3) || eq_z o (pos 4)) (eq_z k (pos 1) || eq_z k (pos 3)) (class_of o) (instrument_of k) r refl refl
+      (p ∙ line_class o) (q ∙ instrument k)
 
   pub opens_spur : (o k : ℤ) {y : Option Class} {z : Option Instrument} (r : Result Change Refusal) → y ≡ spur_named o → z ≡ instrument_named k → Opens y z r
       → Decides b (open_spur o k number height) r
   unfolding book_refusal effect_of
-  opens_spur o k r p q h =
-      let d =
-      by_names (eq_z o (pos 4)) (eq_z k (pos 1) || eq_z k (pos 3)) Spur (instrument_of k) r
-      (subst (λ (n : Option Class × Option Instrument). Opens n.0 n.1 r) (λ i. (p i, (q ∙ instrument k) i)) h) in
-      record { number = d.0; change = d.1 }
+  opens_spur o k r p q =
+      opens (open_spur o k number height) (eq_z o (pos 4)) (eq_z k (pos 1) || eq_z k (pos 3)) Spur (instrument_of k) r refl refl p (q ∙ instrument k)
+
+-- a call of four numbers that fit, as the machine reads them back
+pub opens_as : (b : Book) (call : ℤ → ℤ → ℤ → ℤ → Call) {o k n h : ℤ} {c : Call} {r : Result Change Refusal} → SFits w64 o → SFits w64 k → SFits w64 n → SFits w64 h
+    → c ≡ call o k n h → Decides b (call (stored o) (stored k) (stored n) (stored h)) r → Decides b c r
+opens_as b call {r = r} o k n h is d = subst (λ (x : Call). Decides b x r) ((λ i. call (stored_id o i) (stored_id k i) (stored_id n i) (stored_id h i)) ∙ sym is) d
 
 -- ---- a station, by what is read
 

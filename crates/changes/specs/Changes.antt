@@ -12,7 +12,8 @@ use Rattle.adjust.specs.declared.Sections.{Sections}
 use Rattle.rules.specs.declared.Line.{Line}
 use Rattle.rules.specs.declared.Book.{Book}
 use Rattle.rules.specs.LineState.{LineState, state_of}
-use Rattle.rules.specs.Rules.{Call, begun, book_refusal, taken}
+use Rattle.rules.specs.declared.call.Call.{Call}
+use Rattle.rules.specs.Rules.{begun, book_refusal, taken}
 use Rattle.changes.specs.declared.Change.{Change}
 
 abbrev pub first : {A : Type 0} → List A → Option A

@@ -1,10 +1,8 @@
 // What each call makes of a book: its refusal, or its effect on the line and the section that it finishes.
 ghost use Rattle.std.specs.Prelude.{◌≡◌, None, MatchOption, IfOk, ⊤};
-ghost use Rattle.records.specs.declared.Tag.TheVariants.{Sta, Ang};
 ghost use Rattle.records.specs.Refusals.{number_of};
 ghost use Rattle.rules.specs.LineState.{state_of};
-ghost use Rattle.rules.specs.Rules.{station, end_run, drop_run, drop_section, collimation};
-ghost use Rattle.rules.specs.Records.{call_of};
+ghost use Rattle.rules.specs.declared.call.Call.TheVariants.{Station as station, EndRun as end_run, DropRun as drop_run, DropSection as drop_section, Collimation as collimation};
 ghost use Rattle.rules.specs.code.Opened.{open_refusal};
 ghost use Rattle.rules.specs.code.Closed.{closing_on};
 ghost use Rattle.changes.specs.Changes.{Decides, opened};
@@ -14,7 +12,8 @@ use super::effects::{
     begun, closed, collimated, opening_of, run_dropped, run_ended, section_dropped, with_station,
 };
 use adjust::terms::Class;
-use records::{Record, Refusal, Tag};
+use records::Refusal;
+use rules::call::Call;
 use rules::closing::check_close;
 use rules::opening::{check_start, class_named, instrument_named, spur_named};
 use rules::refusals::{check_collimation, check_drop, check_end, check_station};
@@ -48,7 +47,7 @@ fn open_change(
     Ok(of_line(begun(opening_of(class, instrument, number, height))))
 }
 
-pub fn station_change(
+fn station_change(
     b: &Book,
     kb: i64,
     kf: i64,
@@ -61,17 +60,8 @@ pub fn station_change(
     Ok(of_line(with_station(&b.line, &figures, kf)))
 }
 
-// A station's record: the constant and the readings of the back staff, then of the fore staff.
-fn station_record(b: &Book, v: &[i64; 10]) -> Result<Change, Refusal>
-    ensures { Decides b.now (call_of Sta v.now) result }
-{
-    let back = [v[1], v[2], v[3], v[4]];
-    let fore = [v[6], v[7], v[8], v[9]];
-    station_change(b, v[0], v[5], [back, fore])
-}
-
 #[tactic(auto, unfolding(crate::specs::Changes::effect_of))]
-pub fn collimation_change(b: &Book, x: [i64; 6]) -> Result<Change, Refusal>
+fn collimation_change(b: &Book, x: [i64; 6]) -> Result<Change, Refusal>
     ensures { Decides b.now (collimation x) result }
 {
     check_collimation(b, x)?;
@@ -111,20 +101,29 @@ fn close_change(b: &Book, number: i64, end: Option<i64>) -> Result<Change, Refus
     Ok(of_line(closed(&b.line, end.unwrap_or(0))))
 }
 
-// Of a record.
-pub fn decide(b: &Book, asked: &Record) -> Result<Change, Refusal>
-    ensures { Decides b.now (call_of asked.now.tag asked.now.values) result }
+// Of any call.
+pub fn decide(b: &Book, call: &Call) -> Result<Change, Refusal>
+    ensures { Decides b.now call.now result }
 {
-    let v = &asked.values;
-    match asked.tag {
-        Tag::Lin => open_change(b, class_named(v[0]), instrument_named(v[1]), v[2], v[3]),
-        Tag::Sta => station_record(b, v),
-        Tag::Run => end_change(b, v[0]),
-        Tag::Drr => drop_run_change(b),
-        Tag::Drs => drop_section_change(b),
-        Tag::End => close_change(b, v[0], Some(v[1])),
-        Tag::Spr => open_change(b, spur_named(v[0]), instrument_named(v[1]), v[2], v[3]),
-        Tag::Fin => close_change(b, v[0], None),
-        Tag::Ang => collimation_change(b, [v[0], v[1], v[2], v[3], v[4], v[5]]),
+    match *call {
+        Call::OpenLine {
+            order,
+            instrument,
+            number,
+            height,
+        } => open_change(b, class_named(order), instrument_named(instrument), number, height),
+        Call::Station { kb, kf, readings } => station_change(b, kb, kf, readings),
+        Call::EndRun { number } => end_change(b, number),
+        Call::DropRun => drop_run_change(b),
+        Call::DropSection => drop_section_change(b),
+        Call::CloseLine { number, end } => close_change(b, number, Some(end)),
+        Call::OpenSpur {
+            order,
+            instrument,
+            number,
+            height,
+        } => open_change(b, spur_named(order), instrument_named(instrument), number, height),
+        Call::CloseSpur { number } => close_change(b, number, None),
+        Call::Collimation { values } => collimation_change(b, values),
     }
 }

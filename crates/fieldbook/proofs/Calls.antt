@@ -14,7 +14,7 @@ use Rattle.adjust.specs.Sections.{holding}
 use Rattle.rules.specs.declared.Stage.{Stage}
 use Rattle.rules.specs.declared.Stage.TheVariants.{Fresh, Open, Closed}
 use Rattle.rules.specs.declared.Book.{Book}
-use Rattle.rules.specs.Rules.{Call}
+use Rattle.rules.specs.declared.call.Call.{Call}
 use Rattle.rules.specs.LineState.{is_closed}
 use Rattle.ledger.specs.Plain.{Reading, fresh_reading, after, section_of, figures_of}
 use Rattle.ledger.specs.Trace.{SoundTrace}

@@ -26,7 +26,9 @@ use Rattle.columns.specs.Texts.{lines, joined}
 use Rattle.rules.specs.declared.Stage.{Stage}
 use Rattle.rules.specs.declared.Stage.TheVariants.{Fresh, Open, Closed}
 use Rattle.rules.specs.LineState.{LineState, is_closed}
-use Rattle.rules.specs.Rules.{Call, close_line, figures_tests}
+use Rattle.rules.specs.declared.call.Call.{Call}
+use Rattle.rules.specs.declared.call.Call.TheVariants.{CloseLine as close_line}
+use Rattle.rules.specs.Rules.{figures_tests}
 use Rattle.book.specs.Calls.{closing_in, closing_of, figures_refusal}
 use Rattle.ledger.specs.Plain as Plain
 use Rattle.ledger.specs.Plain.{Reading, fresh_reading, after, plain_state, section_of}

@@ -16,7 +16,8 @@ use Rattle.station.specs.Station.{station_of}
 use Rattle.rules.specs.declared.Stage.{Stage}
 use Rattle.rules.specs.declared.Stage.TheVariants.{Fresh, Open, Closed}
 use Rattle.rules.specs.LineState.{is_open}
-use Rattle.rules.specs.Rules.{Call, open_line, station, end_run, drop_run, drop_section, close_line, open_spur, close_spur, collimation}
+use Rattle.rules.specs.declared.call.Call.{Call}
+use Rattle.rules.specs.declared.call.Call.TheVariants.{OpenLine as open_line, Station as station, EndRun as end_run, DropRun as drop_run, DropSection as drop_section, CloseLine as close_line, OpenSpur as open_spur, CloseSpur as close_spur, Collimation as collimation}
 use Rattle.ledger.specs.Plain.{Reading, Awaited, refusal, taken, run_ended, plain_state}
 use Rattle.ledger.specs.Entries.{Entry, asks, refused, entry_refusal, entry_next}
 use Rattle.rules.proofs.Tables.{fails}

@@ -26,7 +26,7 @@ use Rattle.columns.proofs.Records.{parses}
 use Rattle.columns.specs.Texts.{lines}
 use Rattle.columns.proofs.Lines.{length_line, length_title}
 use Rattle.rules.specs.LineState.{is_closed}
-use Rattle.rules.specs.Rules.{Call}
+use Rattle.rules.specs.declared.call.Call.{Call}
 use Rattle.rules.proofs.Tables.{tests, tables}
 use Rattle.rules.specs.Records.{call_of}
 use Rattle.ledger.specs.Entries.{entry_of, entry_refusal, entry_next}

@@ -33,7 +33,9 @@ use Rattle.columns.proofs.Lines.{columns_range, fits_room, height_fits}
 use Rattle.rules.specs.declared.Stage.TheVariants.{Closed}
 use Rattle.rules.specs.LineState.{LineState}
 use Rattle.adjust.specs.Terms.{terms_of}
-use Rattle.rules.specs.Rules.{Call, open_line, open_spur, collimation, station, end_run, drop_run, drop_section, close_line, close_spur, closure_within}
+use Rattle.rules.specs.declared.call.Call.{Call}
+use Rattle.rules.specs.declared.call.Call.TheVariants.{OpenLine as open_line, OpenSpur as open_spur, Collimation as collimation, Station as station, EndRun as end_run, DropRun as drop_run, DropSection as drop_section, CloseLine as close_line, CloseSpur as close_spur}
+use Rattle.rules.specs.Rules.{closure_within}
 use Rattle.ledger.specs.Plain as Plain
 use Rattle.ledger.specs.Claims.{ClosedBy, by_end, by_fin}
 use Rattle.ledger.specs.Plain.{Reading, fresh_reading, after, figures_of, plain_state}

@@ -7,7 +7,7 @@ use Rattle.adjust.specs.declared.Summary.{Summary}
 use Rattle.columns.specs.Lines.{line_fits, is_wide}
 use Rattle.columns.specs.Texts.{lines}
 use Rattle.rules.specs.declared.Stage.TheVariants.{Closed}
-use Rattle.rules.specs.Rules.{Call}
+use Rattle.rules.specs.declared.call.Call.{Call}
 use Rattle.ledger.specs.Plain.{fresh_reading, after, figures_of}
 use Rattle.textbook.specs.Text.{most_text}
 use Rattle.fieldbook.specs.Report.{closed_numbers, point_numbers, report_lines, report, printed_of}

@@ -14,7 +14,8 @@ use Rattle.adjust.proofs.Holding.{sections_holding, holding_none}
 use Rattle.rules.specs.declared.Stage.TheVariants.{Closed}
 use Rattle.rules.specs.declared.Book.{Book}
 use Rattle.rules.specs.LineState.{LineState, state_of, book_with, is_closed}
-use Rattle.rules.specs.Rules.{close_line, figures_tests}
+use Rattle.rules.specs.declared.call.Call.TheVariants.{CloseLine as close_line}
+use Rattle.rules.specs.Rules.{figures_tests}
 use Rattle.book.specs.Calls.{fresh_book, closing_of, figures_refusal, Tells}
 use Rattle.ledger.specs.Plain as Plain
 use Rattle.ledger.specs.Plain.{Reading, fresh_reading, plain_state}

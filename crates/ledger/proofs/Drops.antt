@@ -9,7 +9,8 @@ use lib.Dec.{eqb}
 use Rattle.rules.specs.declared.Stage.{Stage}
 use Rattle.rules.specs.declared.Stage.TheVariants.{Open}
 use Rattle.rules.specs.LineState.{is_open}
-use Rattle.rules.specs.Rules.{Call, drop_run, drop_section}
+use Rattle.rules.specs.declared.call.Call.{Call}
+use Rattle.rules.specs.declared.call.Call.TheVariants.{DropRun as drop_run, DropSection as drop_section}
 use Rattle.ledger.specs.Plain.{Reading, Levelled, Awaited, after, next, taken, refusal, with_lists}
 use Rattle.ledger.specs.Claims.{RunDropped, SectionDropped}
 

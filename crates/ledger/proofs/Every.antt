@@ -24,7 +24,9 @@ use Rattle.adjust.proofs.Lines.{line_sound, line_near, raw_heights_lem}
 use Rattle.rules.specs.declared.Stage.{Stage}
 use Rattle.rules.specs.declared.Stage.TheVariants.{Closed}
 use Rattle.rules.specs.LineState.{LineState}
-use Rattle.rules.specs.Rules.{Call, open_line, end_run, drop_run, drop_section, close_line, open_spur, close_spur, is_closing, input_tests}
+use Rattle.rules.specs.declared.call.Call.{Call}
+use Rattle.rules.specs.declared.call.Call.TheVariants.{OpenLine as open_line, EndRun as end_run, DropRun as drop_run, DropSection as drop_section, CloseLine as close_line, OpenSpur as open_spur, CloseSpur as close_spur}
+use Rattle.rules.specs.Rules.{is_closing, input_tests}
 use Rattle.ledger.specs.Plain.{Reading, Awaited, fresh_reading, after, next, taken, refusal, plain_state, run_ended, refusals, figures_of, given, closings}
 use Rattle.ledger.specs.Claims.{others, Ends, SoundClosing, SpurHeights, ClosedBy, by_end, by_fin, ClosedOnce, EveryList, taken_only, StruckOut}
 use Rattle.rules.proofs.Tables.{fails}

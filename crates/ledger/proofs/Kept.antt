@@ -35,7 +35,9 @@ use Rattle.rules.specs.declared.Run.{Run}
 use Rattle.rules.specs.declared.Line.{Line}
 use Rattle.rules.specs.declared.Outward.{Outward}
 use Rattle.rules.specs.LineState.{LineState, is_fresh, is_open, is_closed, is_shut, is_empty, is_return, outward_or_return, no_run, one_way, both_ways, waiting_broken, misplaced, line_broken}
-use Rattle.rules.specs.Rules.{Call, open_line, station, end_run, drop_run, drop_section, close_line, open_spur, close_spur, collimation, is_closing, broken, input_tests, state_tests, refusal, book_refusal, number_in_range, discrepancy_within, class_of, opening_of, begun, closed_at, with_runs, with_section, run_ended, taken}
+use Rattle.rules.specs.declared.call.Call.{Call}
+use Rattle.rules.specs.declared.call.Call.TheVariants.{OpenLine as open_line, Station as station, EndRun as end_run, DropRun as drop_run, DropSection as drop_section, CloseLine as close_line, OpenSpur as open_spur, CloseSpur as close_spur, Collimation as collimation}
+use Rattle.rules.specs.Rules.{is_closing, broken, input_tests, state_tests, refusal, book_refusal, number_in_range, discrepancy_within, class_of, opening_of, begun, closed_at, with_runs, with_section, run_ended, taken}
 use Rattle.rules.proofs.Tables.{fails}
 use Rattle.ledger.specs.Plain as Plain
 use Rattle.ledger.specs.Plain.{Reading, fresh_reading, after, next, plain_state}

@@ -3,7 +3,8 @@ use mathlib.Core.List.{◌++◌}
 use Rattle.numbers.specs.Tables.{Lowest}
 use Rattle.numbers.proofs.Tables.{first_lowest}
 use Rattle.rules.specs.LineState.{LineState}
-use Rattle.rules.specs.Rules.{Call, input_tests, state_tests, refusal, book_tests, book_refusal, rank}
+use Rattle.rules.specs.declared.call.Call.{Call}
+use Rattle.rules.specs.Rules.{input_tests, state_tests, refusal, book_tests, book_refusal, rank}
 use Rattle.rules.proofs.Tables.{tests, tables}
 use Rattle.ledger.specs.Claims.{LowestGiven}
 

@@ -37,7 +37,8 @@ use Rattle.adjust.specs.Terms.{order_of}
 use Rattle.adjust.proofs.Classes.{Row}
 use Rattle.rules.specs.declared.Run.{Run}
 use Rattle.rules.specs.LineState.{LineState, no_run, with_station, one_way, both_ways, run_fits, most_g, most_s, most_difference}
-use Rattle.rules.specs.Rules.{station, state_tests, counted_length, discrepancy_within, refusal}
+use Rattle.rules.specs.declared.call.Call.TheVariants.{Station as station}
+use Rattle.rules.specs.Rules.{state_tests, counted_length, discrepancy_within, refusal}
 use Rattle.rules.proofs.Tables.{fails}
 
 -- a run of stations whose figures go by the constants of the staffs c

@@ -28,14 +28,16 @@ use Rattle.rules.specs.declared.Book.{Book}
 use Rattle.book.specs.declared.Outcome.{Outcome}
 use Rattle.rules.specs.LineState.{LineState, state_of, book_with}
 use Rattle.rules.specs.Rules as Rules
-use Rattle.rules.specs.Rules.{Call, close_line, close_spur, is_closing, book_refusal}
+use Rattle.rules.specs.declared.call.Call.{Call}
+use Rattle.rules.specs.declared.call.Call.TheVariants.{CloseLine as close_line, CloseSpur as close_spur}
+use Rattle.rules.specs.Rules.{is_closing, book_refusal}
 use Rattle.rules.proofs.Tables.{tests, tables}
 use Rattle.book.specs.Calls.{fresh_book, book_after, Answers, closing_of, closed_by, Closes, gave_of}
 use Rattle.book.proofs.Joined.{outcome_made, closing_made}
 use Rattle.ledger.specs.Plain as Plain
 use Rattle.ledger.specs.Plain.{Reading, fresh_reading, next, taken, refusal, after, refusals, given, closings, plain_state}
 use Rattle.ledger.specs.Claims.{taken_only}
-use Rattle.ledger.specs.Trace.{Ensures, CloseEnsures, FiguresEnsures, record_call, had_of, Trace, done, call, close, took, took_closing, EveryTrace, EveryListMade, StruckOutOfBook}
+use Rattle.ledger.specs.Trace.{Ensures, CloseEnsures, FiguresEnsures, MadeOf, by_value, in_place, had_of, Trace, done, call, close, made, made_closing, EveryTrace, EveryListMade, StruckOutOfBook}
 use Rattle.ledger.proofs.Follows.{follows}
 use Rattle.ledger.proofs.Kept.{Kept, next_kept, fresh_kept, calls_kept, same_refusal, no_shorter}
 use Rattle.ledger.proofs.Every.{closed_once, same_figures, closes_line, either, none_given, struck_out, all_taken}
@@ -113,9 +115,9 @@ module _ (r : Reading) (k : Kept (plain_state r)) (c : Call) (shuts : is_closing
       only_taken o.answer ∙ (λ i. cond (eqb (n i) 0) (gave_of o.answer) [])
       ∙ one_given o.answer (λ e. ok_of o.answer (n ∙ e) h.figures ∙ ap (λ (g : Closing). Ok (adjusted_of g)) figures)
 
-  had : (o : Outcome (Unit {0})) (a : Result LineFigures Refusal) → number_of o.answer ≡ refusal r c → o.book ≡ book_of (next r c) → FiguresEnsures o.book a
-      → had_of o a ≡ cond (eqb (refusal r c) 0) (given r c) []
-  had o a n s f =
+  had : (x : Result (Unit {0}) Refusal) {m : Book} (a : Result LineFigures Refusal) → number_of x ≡ refusal r c → m ≡ book_of (next r c) → FiguresEnsures m a
+      → had_of x a ≡ cond (eqb (refusal r c) 0) (given r c) []
+  had x a n s f =
       (λ i. cond (eqb (n i) 0) (gave_of a) [])
       ∙ one_given a (λ e. figures_again closed (closed_kept e) (s ∙ ap book_of (reached e)) (closes_line r c shuts) a f)
 
@@ -125,12 +127,17 @@ module _ (r : Reading) (k : Kept (plain_state r)) (c : Call) (shuts : is_closing
 record Meant (b : Book) (c : Call) : Type 0 where
   answers : (o : Outcome (Unit {0})) → Ensures b c o → (is_closing c ≡ false) × Answers b c o
   closes : (o : Outcome LineFigures) → CloseEnsures b c o → (is_closing c ≡ true) × Closes b c o
-  made : ((o : Outcome (Unit {0})) → Answers b c o → Ensures b c o) ⊎ ((o : Outcome LineFigures) → Closes b c o → CloseEnsures b c o)
+  can_be : ((o : Outcome (Unit {0})) → Answers b c o → Ensures b c o) ⊎ ((o : Outcome LineFigures) → Closes b c o → CloseEnsures b c o)
 
 meant : (b : Book) (c : Call) → Meant b c
-meant b (close_line _ _) = record { answers = λ o h. absurd h; closes = λ o h. (refl, h); made = inr (λ o h. h) }
-meant b (close_spur _) = record { answers = λ o h. absurd h; closes = λ o h. (refl, h); made = inr (λ o h. h) }
-meant b c = record { answers = λ o h. (refl, h); closes = λ o h. absurd h; made = inl (λ o h. h) }
+meant b (close_line _ _) = record { answers = λ o h. absurd h; closes = λ o h. (refl, h); can_be = inr (λ o h. h) }
+meant b (close_spur _) = record { answers = λ o h. absurd h; closes = λ o h. (refl, h); can_be = inr (λ o h. h) }
+meant b c = record { answers = λ o h. (refl, h); closes = λ o h. absurd h; can_be = inl (λ o h. h) }
+
+-- and what the functions that make any call ensure
+answered : {b m : Book} {c : Call} {a : Result (Unit {0}) Refusal} → MadeOf b c a m → Answers b c (record { answer = a; book = m })
+answered (by_value r h) = h
+answered (in_place l k b c a m h) = record { number = h.0; book = h.1 }
 
 record Same (r : Reading) (calls : List Call) (ns : List ℕ) (gs : List Closing) (e : Book) : Type 0 where
   numbers : ns ≡ refusals r calls
@@ -152,16 +159,15 @@ traced r k p (close {b = b} {c = c} o h t) =
     let m = (meant b c).closes o h in
     let rest = traced (next r c) (next_kept r c k) (m.1.book ∙ left r k c p) t in
     first r (m.1.number ∙ number r k c p) (closing_gave r k c m.0 p o m.1) rest
-traced r k p (took x o n h t) =
-    let c : Call = record_call x in
-    let rest = traced (next r c) (next_kept r c k) (h.book ∙ left r k c p) t in
-    first {g = []} r (h.number ∙ number r k c p) (none_beside r c n) rest
-traced r k p (took_closing x o a shuts h f t) =
-    let c : Call = record_call x in
-    let answered = h.number ∙ number r k c p in
-    let book = h.book ∙ left r k c p in
-    let rest = traced (next r c) (next_kept r c k) book t in
-    first r answered (had r k c shuts o a answered book f) rest
+traced r k p (made {c = c} a n h t) =
+    let m = answered h in
+    let rest = traced (next r c) (next_kept r c k) (m.book ∙ left r k c p) t in
+    first {g = []} r (m.number ∙ number r k c p) (none_beside r c n) rest
+traced r k p (made_closing {c = c} a f shuts h g t) =
+    let m = answered h in
+    let number = m.number ∙ number r k c p in
+    let book = m.book ∙ left r k c p in
+    first r number (had r k c shuts a f number book g) (traced (next r c) (next_kept r c k) book t)
 
 -- ---- 20 is not given
 
@@ -197,7 +203,7 @@ Made b calls = (ns : List ℕ) × ((gs : List Closing) × ((e : Book) × Trace b
 
 -- one call more, before a list that can be made of any book
 made_first : (b : Book) (c : Call) (cs : List Call) → ((m : Book) → Made m cs) → Made b (c ∷ cs)
-made_first b c cs rest = ⊎_elim other closing (meant b c).made
+made_first b c cs rest = ⊎_elim other closing (meant b c).can_be
   where
     closing : ((o : Outcome LineFigures) → Closes b c o → CloseEnsures b c o) → Made b (c ∷ cs)
     closing k =

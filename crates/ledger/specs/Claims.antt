@@ -8,7 +8,9 @@ use Rattle.adjust.specs.Line.{quarters, line_frame, Closing, closing}
 use Rattle.adjust.specs.Claims.{Near, corrections, last_height, raw_heights}
 use Rattle.rules.specs.declared.Stage.TheVariants.{Open, Closed}
 use Rattle.rules.specs.LineState.{LineState}
-use Rattle.rules.specs.Rules.{Call, drop_run, drop_section, close_line, close_spur, book_tests, book_refusal, rank}
+use Rattle.rules.specs.declared.call.Call.{Call}
+use Rattle.rules.specs.declared.call.Call.TheVariants.{DropRun as drop_run, DropSection as drop_section, CloseLine as close_line, CloseSpur as close_spur}
+use Rattle.rules.specs.Rules.{book_tests, book_refusal, rank}
 use Rattle.ledger.specs.Plain.{Reading, fresh_reading, after, next, taken, refusal, plain_state, with_lists, closings}
 
 -- ---- a closing

@@ -7,7 +7,8 @@ use Rattle.records.specs.declared.Refusal.{Refusal}
 use Rattle.records.specs.Refusals.{refusal_number}
 use Rattle.rules.specs.declared.Book.{Book}
 use Rattle.rules.specs.LineState.{state_of}
-use Rattle.rules.specs.Rules.{Call, book_refusal}
+use Rattle.rules.specs.declared.call.Call.{Call}
+use Rattle.rules.specs.Rules.{book_refusal}
 use Rattle.rules.specs.Records.{call_of}
 use Rattle.book.specs.Calls.{book_after}
 use Rattle.ledger.specs.Plain.{Reading, next, refusal}

@@ -1,10 +1,10 @@
--- A book's calls as a caller makes them: from a fresh book, each on the book that the call before it left, by its own function or by its record (`take`). Of each no
--- more is known than its function's contract ensures. `Learnt` is that contract, read from the function itself.
+-- A book's calls as a caller makes them: from a fresh book, each on the book that the call before it left, by its own function or by one that makes any call: of a book by value
+-- (`take`) or of a book in its place (`enter`). Of each no more is known than its function's contract ensures. `Learnt` is that contract, read from the function itself.
 use Rattle.std.specs.Prelude.{◌≡◌, true, false, not, cond, List, [], ◌∷◌, ◌++◌, ℕ, eqb, Ok}
+use Rattle.std.specs.Borrow.{Bor, MutBor}
 use Rattle.numbers.specs.Numbers.{any_of}
 use Rattle.records.specs.Refusals.{number_of}
 use Rattle.records.specs.declared.Refusal.{Refusal}
-use Rattle.records.specs.declared.Record.{Record}
 use Rattle.std.specs.declared.result.Result.{Result}
 use Rattle.adjust.specs.declared.LineFigures.{LineFigures}
 use Rattle.adjust.specs.Line.{Closing}
@@ -12,8 +12,9 @@ use Rattle.rules.specs.declared.Stage.TheVariants.{Closed}
 use Rattle.rules.specs.declared.Book.{Book}
 use Rattle.book.specs.declared.Outcome.{Outcome}
 use Rattle.rules.specs.LineState.{state_of, book_with}
-use Rattle.rules.specs.Rules.{Call, open_line, station, end_run, drop_run, drop_section, close_line, open_spur, close_spur, collimation, is_closing}
-use Rattle.rules.specs.Records.{call_of}
+use Rattle.rules.specs.declared.call.Call.{Call}
+use Rattle.rules.specs.declared.call.Call.TheVariants.{OpenLine as open_line, Station as station, EndRun as end_run, DropRun as drop_run, DropSection as drop_section, CloseLine as close_line, OpenSpur as open_spur, CloseSpur as close_spur, Collimation as collimation}
+use Rattle.rules.specs.Rules.{is_closing}
 use Rattle.adjust.specs.Frames.{adjusted_of}
 use Rattle.book.specs.Calls.{fresh_book, gave_of}
 use Rattle.book.proofs.fresh.Reads as fresh_reads
@@ -28,6 +29,7 @@ use Rattle.book.proofs.calls.close_spur.Reads as close_spur_reads
 use Rattle.book.proofs.calls.collimation.Reads as collimation_reads
 use Rattle.book.proofs.calls.figures_of.Reads as figures_of_reads
 use Rattle.book.proofs.calls.take.Reads as take_reads
+use Rattle.book.proofs.calls.enter.Reads as enter_reads
 use Rattle.ledger.specs.Plain.{fresh_reading, after, refusals, closings, plain_state}
 use Rattle.ledger.specs.Claims.{ClosedOnce, taken_only}
 
@@ -63,17 +65,15 @@ CloseEnsures b (collimation x) r = ⊥
 abbrev pub FiguresEnsures : Book → Result LineFigures Refusal → Type 0
 FiguresEnsures b f = figures_of_reads.Learnt tt (b, tt) f (b, tt)
 
--- of any call, by its record
-abbrev pub TakeEnsures : Book → Record → Outcome (Unit {0}) → Type 0
-TakeEnsures b x r = take_reads.Learnt tt (b, (x, tt)) r (b, (x, tt))
+-- a call made by one of the two functions that make any call: what it answered, and the book after it. `enter` finds book and call behind references, wherever these point
+pub data MadeOf : Book → Call → Result (Unit {0}) Refusal → Book → Type 0 where
+  by_value : {b : Book} {c : Call} (r : Outcome (Unit {0})) → take_reads.Learnt tt (b, (c, tt)) r (b, (c, tt)) → MadeOf b c r.answer r.book
+  in_place : (l k : List ℕ) (b : MutBor Book) (c : Bor Call) (a : Result (Unit {0}) Refusal) (m : Book)
+      → enter_reads.Learnt (l, (k, tt)) (b, (c, tt)) a (record b { now = m }, (c, tt)) → MadeOf b.now c.now a m
 
--- the call of a record
-abbrev pub record_call : Record → Call
-record_call x = call_of x.tag x.values
-
--- a record that closes the line gives no figures: the book that it leaves does, where it was taken
-abbrev pub had_of : Outcome (Unit {0}) → Result LineFigures Refusal → List Closing
-had_of r f = cond (eqb (number_of r.answer) 0) (gave_of f) []
+-- a closing made so gives no figures: the book that it leaves does, where it was taken
+abbrev pub had_of : Result (Unit {0}) Refusal → Result LineFigures Refusal → List Closing
+had_of a f = cond (eqb (number_of a) 0) (gave_of f) []
 
 -- the calls made of a book, the numbers that they answered, what its closings gave and the book that was left
 pub data Trace : Book → List Call → List ℕ → List Closing → Book → Type 0 where
@@ -82,11 +82,11 @@ pub data Trace : Book → List Call → List ℕ → List Closing → Book → T
       → Trace b (c ∷ cs) (number_of r.answer ∷ ns) gs e
   close : {b e : Book} {c : Call} {cs : List Call} {ns : List ℕ} {gs : List Closing} (r : Outcome LineFigures) → CloseEnsures b c r → Trace r.book cs ns gs e
       → Trace b (c ∷ cs) (number_of r.answer ∷ ns) (gave_of r.answer ++ gs) e
-  took : {b e : Book} {cs : List Call} {ns : List ℕ} {gs : List Closing} (x : Record) (r : Outcome (Unit {0})) → is_closing (record_call x) ≡ false → TakeEnsures b x r
-      → Trace r.book cs ns gs e → Trace b (record_call x ∷ cs) (number_of r.answer ∷ ns) gs e
-  took_closing : {b e : Book} {cs : List Call} {ns : List ℕ} {gs : List Closing} (x : Record) (r : Outcome (Unit {0})) (f : Result LineFigures Refusal)
-      → is_closing (record_call x) ≡ true → TakeEnsures b x r → FiguresEnsures r.book f → Trace r.book cs ns gs e
-      → Trace b (record_call x ∷ cs) (number_of r.answer ∷ ns) (had_of r f ++ gs) e
+  made : {b m e : Book} {c : Call} {cs : List Call} {ns : List ℕ} {gs : List Closing} (a : Result (Unit {0}) Refusal) → is_closing c ≡ false → MadeOf b c a m
+      → Trace m cs ns gs e → Trace b (c ∷ cs) (number_of a ∷ ns) gs e
+  made_closing : {b m e : Book} {c : Call} {cs : List Call} {ns : List ℕ} {gs : List Closing} (a : Result (Unit {0}) Refusal) (f : Result LineFigures Refusal)
+      → is_closing c ≡ true → MadeOf b c a m → FiguresEnsures m f → Trace m cs ns gs e
+      → Trace b (c ∷ cs) (number_of a ∷ ns) (had_of a f ++ gs) e
 
 -- ---- the claim about the whole list
 

@@ -11,7 +11,8 @@ use Rattle.adjust.specs.declared.Point.{Point}
 use Rattle.adjust.specs.declared.Frame.{Frame}
 use Rattle.adjust.specs.Line.{quarters, wholes, frame_of, exact_top, closure, Closing, accidental}
 use Rattle.rules.specs.LineState.{LineState, outward_or_return, both_ways}
-use Rattle.rules.specs.Rules.{Call, open_line, station, end_run, close_line, open_spur, close_spur, collimation}
+use Rattle.rules.specs.declared.call.Call.{Call}
+use Rattle.rules.specs.declared.call.Call.TheVariants.{OpenLine as open_line, Station as station, EndRun as end_run, CloseLine as close_line, OpenSpur as open_spur, CloseSpur as close_spur, Collimation as collimation}
 use Rattle.ledger.specs.Plain.{fresh_reading, after, refusals, plain_state, run_of, closings}
 
 -- ---- the stations of case A

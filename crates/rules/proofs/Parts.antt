@@ -8,7 +8,8 @@ use borrow.Author.Tests.{ne_eqb}
 use Rattle.numbers.specs.Tables.{first_of}
 use Rattle.numbers.proofs.Tables.{numbered, first_append}
 use Rattle.rules.specs.LineState.{LineState}
-use Rattle.rules.specs.Rules.{Call, broken, input_tests, state_tests, book_refusal}
+use Rattle.rules.specs.declared.call.Call.{Call}
+use Rattle.rules.specs.Rules.{broken, input_tests, state_tests, book_refusal}
 use Rattle.rules.proofs.Tables.{tables}
 
 module _ (is ss : List (ℕ × Bool)) (twenty : Bool) (numbers : numbered is ≡ true) where

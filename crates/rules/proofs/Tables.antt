@@ -11,7 +11,9 @@ use Rattle.adjust.specs.Sections.{misfit}
 use Rattle.numbers.proofs.Tests.{or_r}
 use Rattle.numbers.proofs.Tables.{each_number, numbered, test_of, failed, rises}
 use Rattle.rules.specs.LineState.{LineState, line_broken}
-use Rattle.rules.specs.Rules.{Call, open_line, station, end_run, drop_run, drop_section, close_line, open_spur, close_spur, collimation, is_closing, broken, input_tests, state_tests, refusal, book_tests, book_refusal, rank}
+use Rattle.rules.specs.declared.call.Call.{Call}
+use Rattle.rules.specs.declared.call.Call.TheVariants.{OpenLine as open_line, Station as station, EndRun as end_run, DropRun as drop_run, DropSection as drop_section, CloseLine as close_line, OpenSpur as open_spur, CloseSpur as close_spur, Collimation as collimation}
+use Rattle.rules.specs.Rules.{is_closing, broken, input_tests, state_tests, refusal, book_tests, book_refusal, rank}
 
 -- a call's tests
 abbrev pub tests : LineState → Call → List (ℕ × Bool)

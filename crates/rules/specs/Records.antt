@@ -3,7 +3,8 @@
 use Rattle.std.specs.Prelude.{◌≡◌, refl, List, [], ◌∷◌, ℕ, ◌+◌, get_or, ℤ, pos}
 use Rattle.records.specs.declared.Tag.{Tag}
 use Rattle.records.specs.declared.Tag.TheVariants.{Lin, Sta, Run, Drr, Drs, End, Spr, Fin, Ang}
-use Rattle.rules.specs.Rules.{Call, open_line, station, end_run, drop_run, drop_section, close_line, open_spur, close_spur, collimation}
+use Rattle.rules.specs.declared.call.Call.{Call}
+use Rattle.rules.specs.declared.call.Call.TheVariants.{OpenLine as open_line, Station as station, EndRun as end_run, DropRun as drop_run, DropSection as drop_section, CloseLine as close_line, OpenSpur as open_spur, CloseSpur as close_spur, Collimation as collimation}
 
 -- number k of a record, counted from 0
 abbrev pub argument : List ℤ → ℕ → ℤ

@@ -23,23 +23,13 @@ use Rattle.adjust.specs.declared.terms.Terms.{Terms}
 use Rattle.adjust.specs.Terms.{order_of, terms_of}
 use Rattle.adjust.specs.Line.{quarters, totals}
 use Rattle.rules.specs.declared.Stage.TheVariants.{Open, Closed}
+use Rattle.rules.specs.declared.call.Call.{Call}
+-- the calls, under the names by which the rules speak of them
+use Rattle.rules.specs.declared.call.Call.TheVariants.{OpenLine as open_line, Station as station, EndRun as end_run, DropRun as drop_run, DropSection as drop_section, CloseLine as close_line, OpenSpur as open_spur, CloseSpur as close_spur, Collimation as collimation}
 use Rattle.rules.specs.declared.Run.{Run}
 use Rattle.rules.specs.declared.Outward.{Outward}
 use Rattle.rules.specs.declared.Line.{Line}
 use Rattle.rules.specs.LineState.{LineState, is_fresh, is_open, is_closed, is_empty, on_line, is_shut, began, outward_or_return, is_return, no_run, with_station, one_way, both_ways, line_broken}
-
--- open, a line or a spur: order, instrument, start number and height; station: the constants and the readings, back and fore; end run: the benchmark's number;
--- close: the last number, and of a line that is no spur the end height; collimation: its six values
-pub data Call : Type 0 where
-  open_line : ℤ → ℤ → ℤ → ℤ → Call
-  station : ℤ → ℤ → List (List ℤ) → Call
-  end_run : ℤ → Call
-  drop_run : Call
-  drop_section : Call
-  close_line : ℤ → ℤ → Call
-  open_spur : ℤ → ℤ → ℤ → ℤ → Call
-  close_spur : ℤ → Call
-  collimation : List ℤ → Call
 
 -- ---- the parts of the rules
 
@@ -193,14 +183,7 @@ rank n = cond (eqb n 31) 299 (cond (eqb n 41 || eqb n 45 || eqb n 46) 211 (cond 
 
 -- the line with other runs
 abbrev pub with_runs : Line → Option Outward → Run → Line
-with_runs l waiting present =
-    record {
-      stage = l.stage;
-      opening = l.opening;
-      end = l.end;
-      waiting = waiting;
-      present = present;
-    }
+with_runs l waiting present = record l { waiting = waiting; present = present }
 
 abbrev pub with_section : LineState → Section → LineState
 with_section v x = record { line = with_runs v.line None no_run; sections = v.sections ++ (x ∷ []) }
@@ -223,27 +206,13 @@ opening_of class instrument number height =
     record { class = class; instrument = instrument_of instrument; start = record { number = number; height = height }; staffs = Nominal; collimated = false }
 
 abbrev pub collimated : Opening → Opening
-collimated o = record { class = o.class; instrument = o.instrument; start = o.start; staffs = o.staffs; collimated = true }
+collimated o = record o { collimated = true }
 
 abbrev pub with_opening : Line → Opening → Line
-with_opening l o =
-    record {
-      stage = l.stage;
-      opening = o;
-      end = l.end;
-      waiting = l.waiting;
-      present = l.present;
-    }
+with_opening l o = record l { opening = o }
 
 abbrev pub closed_at : Line → ℤ → Line
-closed_at l end =
-    record {
-      stage = Closed;
-      opening = l.opening;
-      end = end;
-      waiting = l.waiting;
-      present = l.present;
-    }
+closed_at l end = record l { stage = Closed; end = end }
 
 abbrev pub taken : LineState → Call → LineState
 taken v (open_line order instrument number height) = record { line = begun (opening_of (class_of order) instrument number height); sections = [] }

@@ -6,7 +6,8 @@ ghost use Rattle.adjust.specs.Sections.{sections_of, height_in_range};
 ghost use Rattle.adjust.specs.Frames.{figures_fit};
 ghost use Rattle.rules.specs.LineState.{state_of, is_shut};
 ghost use Rattle.rules.specs.code.Closed.{closing_on, close_input_tests};
-ghost use Rattle.rules.specs.Rules.{close_line, close_tests, length_limit, total_tests, line_tests, state_tests, figures_tests, broken_in, book_refusal};
+ghost use Rattle.rules.specs.declared.call.Call.TheVariants.{CloseLine as close_line};
+ghost use Rattle.rules.specs.Rules.{close_tests, length_limit, total_tests, line_tests, state_tests, figures_tests, broken_in, book_refusal};
 
 use super::broken::line_broken;
 use super::position::{began, is_shut};

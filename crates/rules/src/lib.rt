@@ -4,6 +4,7 @@
 use adjust::{Opening, Sections};
 
 mod broken;
+pub mod call;
 pub mod closing;
 pub mod opening;
 mod position;

@@ -5,7 +5,8 @@ ghost use Rattle.numbers.specs.Tables.{first_of};
 ghost use Rattle.records.specs.Refusals.{number_of};
 ghost use Rattle.rules.specs.LineState.{state_of, outward_or_return, both_ways};
 ghost use Rattle.rules.specs.code.Bounds.{SmallRuns};
-ghost use Rattle.rules.specs.Rules.{end_run, drop_run, collimation, number_in_range, number_allowed, counted_length, discrepancy_within, out_of_turn, station_tests, book_station_tests, state_tests, input_tests, book_refusal};
+ghost use Rattle.rules.specs.declared.call.Call.TheVariants.{EndRun as end_run, DropRun as drop_run, Collimation as collimation};
+ghost use Rattle.rules.specs.Rules.{number_in_range, number_allowed, counted_length, discrepancy_within, out_of_turn, station_tests, book_station_tests, state_tests, input_tests, book_refusal};
 
 use super::broken::line_broken;
 use super::position::{began, is_shut, on_line};

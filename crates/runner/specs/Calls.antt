@@ -9,7 +9,7 @@ use Rattle.records.specs.declared.Refusal.{Refusal}
 use Rattle.records.specs.declared.Refusal.TheVariants.{NotARecord}
 use Rattle.records.specs.declared.Tag.{Tag}
 use Rattle.records.specs.declared.Tag.TheVariants.{Lin, Sta, Run, Drr, Drs, End, Spr, Fin, Ang}
-use Rattle.rules.specs.Rules.{open_line, station, close_line, open_spur, close_spur, collimation}
+use Rattle.rules.specs.declared.call.Call.TheVariants.{OpenLine as open_line, Station as station, CloseLine as close_line, OpenSpur as open_spur, CloseSpur as close_spur, Collimation as collimation}
 use Rattle.ledger.specs.Entries.{Entry, asks, refused, entry_of}
 
 -- the tag of a kind

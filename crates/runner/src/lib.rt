@@ -14,6 +14,7 @@ ghost use Rattle.runner.specs.Figures.{book_figures};
 use book::calls::enter;
 use records::{Record, Refusal, Tag, number_of};
 use rules::Book;
+use rules::call::Call;
 
 mod figures;
 
@@ -53,7 +54,7 @@ fn take_first(book: &mut Book, list: &[i64]) -> Result<(), Refusal>
     ensures book { book.new ≡ entry_book book.old (first_entry list.now) }
 {
     let record = first_record(list)?;
-    enter(book, &record)
+    enter(book, &Call::from(record))
 }
 
 // The number of an entry into its place of the lent list, where there is one. (Of a write through `get_mut` a proof knows no element.)

@@ -1,7 +1,7 @@
 -- The text book, read over the plain reading: what a line of it means is told by its record (document 01, 'The text book and the report').
 use Rattle.std.specs.Prelude.{Bool, cond, List, [], ◌∷◌, ◌++◌, map, ℕ, suc, length, eqb, ltb}
 use Rattle.columns.specs.Records.{line_in}
-use Rattle.rules.specs.Rules.{Call}
+use Rattle.rules.specs.declared.call.Call.{Call}
 use Rattle.ledger.specs.Plain.{Reading}
 use Rattle.ledger.specs.Entries as Entries
 use Rattle.ledger.specs.Entries.{Entry, entry_of, entry_refusals, after_entries}

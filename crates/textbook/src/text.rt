@@ -10,6 +10,7 @@ use book::calls::enter;
 use columns::parser::{is_heading, parse_line};
 use records::{Refusal, number_of};
 use rules::Book;
+use rules::call::Call;
 
 // What a text leaves: the book, and each line's refusal number in the line's place, 0 where it was taken or not read. Numbers and no Options of a refusal: the report
 // prints them.
@@ -36,7 +37,7 @@ fn take_line(book: &mut Book, bytes: &[u8]) -> Result<(), Refusal>
     ensures book { book.new ≡ entry_book book.old (line_entry bytes.now) }
 {
     let record = parse_line(bytes)?;
-    enter(book, &record)
+    enter(book, &Call::from(record))
 }
 
 // The lines after the heading, one after the other, of a text that is not too long. The first of them is line 2.

@@ -5,7 +5,9 @@ use Rattle.numbers.proofs.Machine.{stored}
 use Rattle.station.specs.declared.Figures.{Figures}
 use Rattle.rules.specs.declared.Line.{Line}
 use Rattle.rules.specs.LineState.{state_of, with_station}
-use Rattle.rules.specs.Rules.{Call, station, with_runs, book_refusal}
+use Rattle.rules.specs.declared.call.Call.{Call}
+use Rattle.rules.specs.declared.call.Call.TheVariants.{Station as station}
+use Rattle.rules.specs.Rules.{with_runs, book_refusal}
 use Rattle.changes.specs.Changes.{effect_of, Decides}
 use Rattle.changes.proofs.Joined.{book_unbroken, station_as, read_refused, read_number}
 use Rattle.changes.proofs.decisions.station_change.Goals as goal

@@ -10,7 +10,8 @@ use Rattle.numbers.proofs.Machine.{stored_id}
 use Rattle.adjust.specs.Sections.{height_in_range}
 use Rattle.rules.specs.LineState.{LineState, state_of}
 use Rattle.rules.specs.code.Closed.{closing_on, close_input_tests}
-use Rattle.rules.specs.Rules.{close_tests, close_line, is_closing, broken, broken_in, input_tests, state_tests}
+use Rattle.rules.specs.declared.call.Call.TheVariants.{CloseLine as close_line}
+use Rattle.rules.specs.Rules.{close_tests, is_closing, broken, broken_in, input_tests, state_tests}
 use Rattle.rules.proofs.Parts.{broken_refused, state_refused}
 use Rattle.rules.proofs.closing.check_close.Goals as goal
 

@@ -16,7 +16,8 @@ use Rattle.adjust.specs.Frames.{figures_fit}
 use Rattle.adjust.proofs.Holding.{sections_count}
 use Rattle.rules.specs.declared.Book.{Book}
 use Rattle.rules.specs.LineState.{state_of, is_return, is_empty, is_shut, line_broken}
-use Rattle.rules.specs.Rules.{close_line, close_tests, line_tests, state_tests, broken_in}
+use Rattle.rules.specs.declared.call.Call.TheVariants.{CloseLine as close_line}
+use Rattle.rules.specs.Rules.{close_tests, line_tests, state_tests, broken_in}
 use Rattle.rules.proofs.Unbroken.{Unbroken, unbroken, some_long}
 use Rattle.rules.proofs.closing.check_known_end.Goals as goal
 
