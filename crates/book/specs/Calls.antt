@@ -1,14 +1,11 @@
 -- The calls of a book: what each answers and leaves. Of every call: the number that `book_refusal` gives; the book as the rules' effect leaves it where
 -- that is 0, and the very book where it is not.
-use Rattle.std.specs.Prelude.{◌≡◌, false, cond, List, [], ◌∷◌, ℕ, ◌+◌, take, eqb, pos, Ok, Err, None, IfOk}
+use Rattle.std.specs.Prelude.{◌≡◌, cond, List, [], ◌∷◌, ℕ, ◌+◌, take, eqb, pos, Ok, Err, None, IfOk}
 use Rattle.std.specs.declared.result.Result.{Result}
 use Rattle.numbers.specs.Numbers.{filled}
 use Rattle.numbers.specs.Tables.{first_of}
 use Rattle.records.specs.declared.Refusal.{Refusal}
 use Rattle.records.specs.Refusals.{number_of}
-use Rattle.adjust.specs.declared.terms.Class.TheVariants.{Fourth}
-use Rattle.station.specs.declared.Instrument.TheVariants.{Ds3}
-use Rattle.station.specs.declared.Staffs.TheVariants.{Nominal}
 use Rattle.adjust.specs.declared.LineFigures.{LineFigures}
 use Rattle.adjust.specs.Sections.{no_section}
 use Rattle.adjust.specs.Line.{Closing, closing}
@@ -17,7 +14,7 @@ use Rattle.rules.specs.declared.Stage.TheVariants.{Fresh}
 use Rattle.rules.specs.declared.Book.{Book}
 use Rattle.rules.specs.LineState.{LineState, state_of, book_with, no_run}
 use Rattle.rules.specs.declared.call.Call.{Call}
-use Rattle.rules.specs.Rules.{figures_tests, book_refusal, taken}
+use Rattle.rules.specs.Rules.{figures_tests, unopened, book_refusal, taken}
 use Rattle.book.specs.declared.Outcome.{Outcome}
 
 abbrev pub fresh_book : Book
@@ -26,7 +23,7 @@ fresh_book =
       line =
           record {
             stage = Fresh;
-            opening = record { class = Fourth; instrument = Ds3; start = record { number = pos 0; height = pos 0 }; staffs = Nominal; collimated = false };
+            opening = unopened;
             end = pos 0;
             waiting = None;
             present = no_run;

@@ -5,10 +5,11 @@ ghost use Rattle.std.specs.Prelude.{◌≡◌};
 ghost use Rattle.book.specs.Calls.{fresh_book};
 
 use adjust::terms::Class;
-use adjust::{Benchmark, Opening, Section, Sections};
+use adjust::{Section, Sections};
 use records::Refusal;
+use rules::opening::opening_with;
 use rules::{Book, Line, Run, Stage};
-use station::{Instrument, Staffs};
+use station::Instrument;
 
 pub mod calls;
 
@@ -23,16 +24,7 @@ pub struct Outcome<T> {
 pub fn fresh() -> Book
     ensures { result ≡ fresh_book }
 {
-    let opening = Opening {
-        class: Class::Fourth,
-        instrument: Instrument::Ds3,
-        start: Benchmark {
-            number: 0,
-            height: 0,
-        },
-        staffs: Staffs::Nominal,
-        collimated: false,
-    };
+    let opening = opening_with(Class::Fourth, Instrument::Ds3, 0, 0);
     let line = Line {
         stage: Stage::Fresh,
         opening,

@@ -1,11 +1,10 @@
 -- How the code makes a call of a book: what it changes, before it touches the array of the sections. No rule of document 01.
-use Rattle.std.specs.Prelude.{◌≡◌, false, cond, List, [], ◌∷◌, ◌+◌, ltb, set, ℤ, Some, None, IfOk}
+use Rattle.std.specs.Prelude.{◌≡◌, cond, List, [], ◌∷◌, ◌+◌, ltb, set, ℤ, Some, None, IfOk}
 use Rattle.std.specs.declared.option.Option.{Option}
 use Rattle.std.specs.declared.result.Result.{Result}
 use Rattle.records.specs.declared.Refusal.{Refusal}
 use Rattle.records.specs.Refusals.{number_of}
 use Rattle.station.specs.declared.Instrument.{Instrument}
-use Rattle.station.specs.declared.Staffs.TheVariants.{Nominal}
 use Rattle.adjust.specs.declared.terms.Class.{Class}
 use Rattle.adjust.specs.declared.Section.{Section}
 use Rattle.adjust.specs.declared.Sections.{Sections}
@@ -13,7 +12,7 @@ use Rattle.rules.specs.declared.Line.{Line}
 use Rattle.rules.specs.declared.Book.{Book}
 use Rattle.rules.specs.LineState.{LineState, state_of}
 use Rattle.rules.specs.declared.call.Call.{Call}
-use Rattle.rules.specs.Rules.{begun, book_refusal, taken}
+use Rattle.rules.specs.Rules.{begun, opening_with, book_refusal, taken}
 use Rattle.changes.specs.declared.Change.{Change}
 
 abbrev pub first : {A : Type 0} → List A → Option A
@@ -29,10 +28,7 @@ effect_of l c =
 -- of a line or a spur that is opened
 abbrev pub opened : Class → Instrument → ℤ → ℤ → Change
 opened class instrument number height =
-    record {
-      line = begun (record { class = class; instrument = instrument; start = record { number = number; height = height }; staffs = Nominal; collimated = false });
-      section = None;
-    }
+    record { line = begun (opening_with class instrument number height); section = None }
 
 -- r is what a call makes of a book: its refusal, or what it changes
 pub record Decides (b : Book) (c : Call) (r : Result Change Refusal) : Type 0 where

@@ -2,20 +2,21 @@
 ghost use Rattle.std.specs.Prelude.{◌≡◌, None, MatchOption, IfOk, ⊤};
 ghost use Rattle.records.specs.Refusals.{number_of};
 ghost use Rattle.rules.specs.LineState.{state_of};
-ghost use Rattle.rules.specs.declared.call.Call.TheVariants.{Station as station, EndRun as end_run, DropRun as drop_run, DropSection as drop_section, Collimation as collimation};
+ghost use Rattle.rules.specs.declared.call.Call.TheVariants.{Station as station, EndRun as end_run, DropRun as drop_run, Collimation as collimation};
+ghost use Rattle.rules.specs.Rules.{book_refusal};
 ghost use Rattle.rules.specs.code.Opened.{open_refusal};
 ghost use Rattle.rules.specs.code.Closed.{closing_on};
 ghost use Rattle.changes.specs.Changes.{Decides, opened};
 
 use super::Change;
 use super::effects::{
-    begun, closed, collimated, opening_of, run_dropped, run_ended, section_dropped, with_station,
+    begun, closed, collimated, run_dropped, run_ended, section_dropped, with_station,
 };
 use adjust::terms::Class;
 use records::Refusal;
 use rules::call::Call;
 use rules::closing::check_close;
-use rules::opening::{check_start, class_named, instrument_named, spur_named};
+use rules::opening::{check_start, class_named, instrument_named, opening_with, spur_named};
 use rules::refusals::{check_collimation, check_drop, check_end, check_station};
 use rules::{Book, Line};
 use station::Instrument;
@@ -44,15 +45,10 @@ fn open_change(
     let class = class.ok_or(Refusal::OrderOrInstrument)?;
     let instrument = instrument.ok_or(Refusal::OrderOrInstrument)?;
     check_start(b, number, height)?;
-    Ok(of_line(begun(opening_of(class, instrument, number, height))))
+    Ok(of_line(begun(opening_with(class, instrument, number, height))))
 }
 
-fn station_change(
-    b: &Book,
-    kb: i64,
-    kf: i64,
-    readings: [[i64; 4]; 2],
-) -> Result<Change, Refusal>
+fn station_change(b: &Book, kb: i64, kf: i64, readings: [[i64; 4]; 2]) -> Result<Change, Refusal>
     ensures { Decides b.now (station kb kf readings) result }
 {
     let figures = station::read(b.line.opening.staffs, kb, kf, readings)?;
@@ -76,20 +72,13 @@ fn end_change(b: &Book, number: i64) -> Result<Change, Refusal>
     Ok(run_ended(&b.line, number))
 }
 
-#[tactic(auto, unfolding(crate::specs::Changes::effect_of))]
-fn drop_run_change(b: &Book) -> Result<Change, Refusal>
-    ensures { Decides b.now drop_run result }
+// Of either drop, which leaves this line.
+fn drop_change(b: &Book, next: Line) -> Result<Change, Refusal>
+    ensures number { number_of result ≡ book_refusal (state_of b.now) drop_run }
+    ensures change { IfOk result (λ x. x ≡ record { line = next; section = None }) }
 {
     check_drop(b)?;
-    Ok(of_line(run_dropped(&b.line)))
-}
-
-#[tactic(auto, unfolding(rules::specs::Rules::book_refusal, crate::specs::Changes::effect_of))]
-fn drop_section_change(b: &Book) -> Result<Change, Refusal>
-    ensures { Decides b.now drop_section result }
-{
-    check_drop(b)?;
-    Ok(of_line(section_dropped(&b.line)))
+    Ok(of_line(next))
 }
 
 // Close a line on a known height, or a spur, which has none.
@@ -102,6 +91,7 @@ fn close_change(b: &Book, number: i64, end: Option<i64>) -> Result<Change, Refus
 }
 
 // Of any call.
+#[tactic(auto, unfolding(rules::specs::Rules::book_refusal, crate::specs::Changes::effect_of))]
 pub fn decide(b: &Book, call: &Call) -> Result<Change, Refusal>
     ensures { Decides b.now call.now result }
 {
@@ -111,18 +101,30 @@ pub fn decide(b: &Book, call: &Call) -> Result<Change, Refusal>
             instrument,
             number,
             height,
-        } => open_change(b, class_named(order), instrument_named(instrument), number, height),
+        } => open_change(
+            b,
+            class_named(order),
+            instrument_named(instrument),
+            number,
+            height,
+        ),
         Call::Station { kb, kf, readings } => station_change(b, kb, kf, readings),
         Call::EndRun { number } => end_change(b, number),
-        Call::DropRun => drop_run_change(b),
-        Call::DropSection => drop_section_change(b),
+        Call::DropRun => drop_change(b, run_dropped(&b.line)),
+        Call::DropSection => drop_change(b, section_dropped(&b.line)),
         Call::CloseLine { number, end } => close_change(b, number, Some(end)),
         Call::OpenSpur {
             order,
             instrument,
             number,
             height,
-        } => open_change(b, spur_named(order), instrument_named(instrument), number, height),
+        } => open_change(
+            b,
+            spur_named(order),
+            instrument_named(instrument),
+            number,
+            height,
+        ),
         Call::CloseSpur { number } => close_change(b, number, None),
         Call::Collimation { values } => collimation_change(b, values),
     }

@@ -1,6 +1,5 @@
 // What a call that is taken leaves of the line, and the section that it finishes.
-ghost use Rattle.std.specs.Prelude.{◌≡◌, true, false, Some, None};
-ghost use Rattle.station.specs.declared.Staffs.TheVariants.{Nominal};
+ghost use Rattle.std.specs.Prelude.{◌≡◌, Some, None};
 ghost use Rattle.station.specs.code.Bounds.{Small};
 ghost use Rattle.rules.specs.LineState.{no_run, with_station, one_way, both_ways};
 ghost use Rattle.rules.specs.declared.call.Call.TheVariants.{EndRun as end_run};
@@ -10,24 +9,11 @@ ghost use Rattle.rules.specs.code.Bounds.{SmallRun, SmallRuns};
 ghost use Rattle.changes.specs.Changes.{effect_of};
 
 use super::Change;
-use adjust::terms::{Class, terms_of};
-use adjust::{Benchmark, Opening, Section};
+use adjust::{Opening, Section};
 use rules::{Line, Outward, Run, Stage};
-use station::{Figures, Instrument, Staffs};
+use station::Figures;
 
 // ---- open
-
-pub(crate) fn opening_of(class: Class, instrument: Instrument, number: i64, height: i64) -> Opening
-    ensures { result ≡ record { class = class; instrument = instrument; start = record { number = number; height = height }; staffs = Nominal; collimated = false } }
-{
-    Opening {
-        class,
-        instrument,
-        start: Benchmark { number, height },
-        staffs: Staffs::Nominal,
-        collimated: false,
-    }
-}
 
 // An open line with nothing in it.
 pub(crate) fn begun(opening: Opening) -> Line
@@ -118,7 +104,7 @@ pub(crate) fn run_ended(line: &Line, number: i64) -> Change
     if let Some(outward) = line.waiting {
         return finished(line, both_ways(&outward, &run));
     }
-    if terms_of(line.opening.class).double {
+    if line.opening.class.terms().double {
         let waiting = Some(Outward { number, run });
         return Change {
             line: Line {

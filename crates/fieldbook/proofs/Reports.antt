@@ -31,9 +31,9 @@ use Rattle.rules.specs.declared.call.Call.TheVariants.{CloseLine as close_line}
 use Rattle.rules.specs.Rules.{figures_tests}
 use Rattle.book.specs.Calls.{closing_in, closing_of, figures_refusal}
 use Rattle.ledger.specs.Plain as Plain
-use Rattle.ledger.specs.Plain.{Reading, fresh_reading, after, plain_state, section_of}
+use Rattle.ledger.specs.Plain.{Reading, fresh_reading, after, plain_state, section_of, book_of}
 use Rattle.ledger.proofs.Kept.{Kept, fresh_kept, calls_kept, kept_unbroken}
-use Rattle.ledger.proofs.Again.{book_of, held, figures_number, fresh_holds}
+use Rattle.ledger.proofs.Again.{held, figures_number, fresh_holds}
 use Rattle.ledger.proofs.Traced.{points_back}
 use Rattle.ledger.proofs.Entries.{reading_calls, refusals_long}
 use Rattle.textbook.specs.Text.{most_text, too_long, line_entry, entries, line_refusals, reading_after, refusals_from, calls_of}

@@ -13,16 +13,13 @@ use Rattle.adjust.specs.Frames.{adjusted_of}
 use Rattle.adjust.proofs.Holding.{sections_holding, holding_none}
 use Rattle.rules.specs.declared.Stage.TheVariants.{Closed}
 use Rattle.rules.specs.declared.Book.{Book}
-use Rattle.rules.specs.LineState.{LineState, state_of, book_with, is_closed}
+use Rattle.rules.specs.LineState.{LineState, state_of, is_closed}
 use Rattle.rules.specs.declared.call.Call.TheVariants.{CloseLine as close_line}
 use Rattle.rules.specs.Rules.{figures_tests}
 use Rattle.book.specs.Calls.{fresh_book, closing_of, figures_refusal, Tells}
 use Rattle.ledger.specs.Plain as Plain
-use Rattle.ledger.specs.Plain.{Reading, fresh_reading, plain_state}
+use Rattle.ledger.specs.Plain.{Reading, fresh_reading, plain_state, book_of}
 use Rattle.ledger.proofs.Kept.{Kept, kept_unbroken}
-
-abbrev pub book_of : Reading → Book
-book_of r = book_with fresh_book (plain_state r)
 
 pub held : (r : Reading) {b : Book} → b ≡ book_of r → state_of b ≡ plain_state r
 held r p = ap state_of p ∙ (λ i. record { line = (plain_state r).line; sections = sections_holding fresh_book.sections (plain_state r).sections i })

@@ -4,10 +4,9 @@ use mathlib.Core.List.{List, [], ◌∷◌, ◌++◌}
 use Prim.Native.Nat.{ℕ, suc}
 use lib.ListN.{length}
 use Rattle.rules.specs.declared.Book.{Book}
-use Rattle.ledger.specs.Plain.{Reading, next, after, refusal, refusals, plain_state}
+use Rattle.ledger.specs.Plain.{Reading, next, after, refusal, refusals, plain_state, book_of}
 use Rattle.ledger.specs.Entries.{Entry, asks, refused, entry_refusal, entry_next, entry_number, entry_book, entry_refusals, after_entries, calls_of, call_numbers}
 use Rattle.ledger.proofs.Kept.{Kept, next_kept}
-use Rattle.ledger.proofs.Again.{book_of}
 use Rattle.ledger.proofs.Traced.{number, left}
 
 -- ---- as the list of their calls

@@ -15,7 +15,7 @@ use Rattle.adjust.specs.declared.Section.{Section}
 use Rattle.rules.specs.LineState.{LineState, no_run, with_station}
 use Rattle.rules.specs.Rules as Rules
 use Rattle.rules.specs.declared.call.Call.{Call}
-use Rattle.rules.specs.declared.call.Call.TheVariants.{OpenLine as open_line, Station as station, EndRun as end_run, DropRun as drop_run, DropSection as drop_section, CloseLine as close_line, OpenSpur as open_spur, CloseSpur as close_spur, Collimation as collimation}
+use Rattle.rules.specs.declared.call.Call.TheVariants.{Station as station, EndRun as end_run}
 use Rattle.rules.specs.Rules.{with_runs, with_section}
 use Rattle.ledger.specs.Plain as Plain
 use Rattle.ledger.specs.Plain.{Reading, Levelled, Awaited, run_of, section_of, plain_state, with_lists}

@@ -35,13 +35,13 @@ use Rattle.rules.proofs.Tables.{tests, tables}
 use Rattle.book.specs.Calls.{fresh_book, book_after, Answers, closing_of, closed_by, Closes, gave_of}
 use Rattle.book.proofs.Joined.{outcome_made, closing_made}
 use Rattle.ledger.specs.Plain as Plain
-use Rattle.ledger.specs.Plain.{Reading, fresh_reading, next, taken, refusal, after, refusals, given, closings, plain_state}
+use Rattle.ledger.specs.Plain.{Reading, fresh_reading, next, taken, refusal, after, refusals, given, closings, plain_state, book_of}
 use Rattle.ledger.specs.Claims.{taken_only}
 use Rattle.ledger.specs.Trace.{Ensures, CloseEnsures, FiguresEnsures, MadeOf, by_value, in_place, had_of, Trace, done, call, close, made, made_closing, EveryTrace, EveryListMade, StruckOutOfBook}
 use Rattle.ledger.proofs.Follows.{follows}
 use Rattle.ledger.proofs.Kept.{Kept, next_kept, fresh_kept, calls_kept, same_refusal, no_shorter}
 use Rattle.ledger.proofs.Every.{closed_once, same_figures, closes_line, either, none_given, struck_out, all_taken}
-use Rattle.ledger.proofs.Again.{book_of, held, fresh_holds, ok_of, figures_again}
+use Rattle.ledger.proofs.Again.{held, fresh_holds, ok_of, figures_again}
 
 -- ---- one call of the book of a reading
 

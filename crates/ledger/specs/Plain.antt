@@ -1,12 +1,10 @@
 -- Document 01's 'plain reading' of a list of calls: it keeps lists of stations and no sum, and judges each call by the rules read over these lists.
 -- Its 'standing list' is what a `Reading` keeps: the finished sections, the outward list that waits and the list of the present run.
-use Rattle.std.specs.Prelude.{false, cond, List, [], ◌∷◌, ◌++◌, map, ℕ, length, eqb, ℤ, pos, Some, None}
+use Rattle.std.specs.Prelude.{cond, List, [], ◌∷◌, ◌++◌, map, ℕ, length, eqb, ℤ, pos, Some, None}
 use Rattle.std.specs.declared.option.Option.{Option}
 use Rattle.numbers.specs.Numbers.{sum, last_of}
-use Rattle.adjust.specs.declared.terms.Class.TheVariants.{Fourth, Spur}
-use Rattle.station.specs.declared.Instrument.TheVariants.{Ds3}
+use Rattle.adjust.specs.declared.terms.Class.TheVariants.{Spur}
 use Rattle.station.specs.declared.Staffs.{Staffs}
-use Rattle.station.specs.declared.Staffs.TheVariants.{Nominal}
 use Rattle.station.specs.declared.Station.{Station}
 use Rattle.station.specs.Station.{station_of, sights, sight_difference, twice_height}
 use Rattle.adjust.specs.declared.Opening.{Opening}
@@ -17,11 +15,13 @@ use Rattle.rules.specs.declared.Stage.{Stage}
 use Rattle.rules.specs.declared.Stage.TheVariants.{Fresh, Open, Closed}
 use Rattle.rules.specs.declared.Run.{Run}
 use Rattle.rules.specs.declared.Outward.{Outward}
-use Rattle.rules.specs.LineState.{LineState, one_way, both_ways}
+use Rattle.rules.specs.declared.Book.{Book}
+use Rattle.rules.specs.LineState.{LineState, book_with, one_way, both_ways}
+use Rattle.book.specs.Calls.{fresh_book}
 use Rattle.rules.specs.Rules as Rules
 use Rattle.rules.specs.declared.call.Call.{Call}
 use Rattle.rules.specs.declared.call.Call.TheVariants.{OpenLine as open_line, Station as station, EndRun as end_run, DropRun as drop_run, DropSection as drop_section, CloseLine as close_line, OpenSpur as open_spur, CloseSpur as close_spur, Collimation as collimation}
-use Rattle.rules.specs.Rules.{class_of, opening_of, collimated, is_closing}
+use Rattle.rules.specs.Rules.{class_of, opening_of, unopened, collimated, is_closing}
 
 -- a finished section: its number, its outward list and, where it was levelled both ways, its return list
 pub record Levelled : Type 0 where
@@ -81,6 +81,10 @@ plain_state r =
           };
       sections = map (section_of c) r.sections;
     }
+
+-- the book that holds a reading's counts and sums, and nothing else
+abbrev pub book_of : Reading → Book
+book_of r = book_with fresh_book (plain_state r)
 
 -- ---- what is kept of a call that is taken
 
@@ -142,7 +146,7 @@ abbrev pub fresh_reading : Reading
 fresh_reading =
     record {
       stage = Fresh;
-      opening = record { class = Fourth; instrument = Ds3; start = record { number = pos 0; height = pos 0 }; staffs = Nominal; collimated = false };
+      opening = unopened;
       end = pos 0;
       sections = [];
       waiting = None;

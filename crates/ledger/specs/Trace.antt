@@ -11,12 +11,12 @@ use Rattle.adjust.specs.Line.{Closing}
 use Rattle.rules.specs.declared.Stage.TheVariants.{Closed}
 use Rattle.rules.specs.declared.Book.{Book}
 use Rattle.book.specs.declared.Outcome.{Outcome}
-use Rattle.rules.specs.LineState.{state_of, book_with}
+use Rattle.rules.specs.LineState.{state_of}
 use Rattle.rules.specs.declared.call.Call.{Call}
 use Rattle.rules.specs.declared.call.Call.TheVariants.{OpenLine as open_line, Station as station, EndRun as end_run, DropRun as drop_run, DropSection as drop_section, CloseLine as close_line, OpenSpur as open_spur, CloseSpur as close_spur, Collimation as collimation}
 use Rattle.rules.specs.Rules.{is_closing}
 use Rattle.adjust.specs.Frames.{adjusted_of}
-use Rattle.book.specs.Calls.{fresh_book, gave_of}
+use Rattle.book.specs.Calls.{gave_of}
 use Rattle.book.proofs.fresh.Reads as fresh_reads
 use Rattle.book.proofs.calls.«open».Reads as open_reads
 use Rattle.book.proofs.calls.station.Reads as station_reads
@@ -30,7 +30,7 @@ use Rattle.book.proofs.calls.collimation.Reads as collimation_reads
 use Rattle.book.proofs.calls.figures_of.Reads as figures_of_reads
 use Rattle.book.proofs.calls.take.Reads as take_reads
 use Rattle.book.proofs.calls.enter.Reads as enter_reads
-use Rattle.ledger.specs.Plain.{fresh_reading, after, refusals, closings, plain_state}
+use Rattle.ledger.specs.Plain.{fresh_reading, after, refusals, closings, plain_state, book_of}
 use Rattle.ledger.specs.Claims.{ClosedOnce, taken_only}
 
 abbrev pub FreshEnsures : Book → Type 0
@@ -96,7 +96,7 @@ pub record SoundTrace (calls : List Call) (ns : List ℕ) (gs : List Closing) (e
   pub given : gs ≡ closings fresh_reading calls
   -- the book holds the standing list's counts and sums, and nothing else
   pub holds : state_of e ≡ plain_state (after fresh_reading calls)
-  pub book : e ≡ book_with fresh_book (plain_state (after fresh_reading calls))
+  pub book : e ≡ book_of (after fresh_reading calls)
   -- no call found the book broken
   pub never_20 : any_of (λ n. eqb n 20) ns ≡ false
   -- a line that the calls left closed was closed once and soundly

@@ -201,9 +201,17 @@ run_ended v number =
 abbrev pub begun : Opening → Line
 begun o = record { stage = Open; opening = o; end = pos 0; waiting = None; present = no_run }
 
+-- what a line is opened with: the staffs have their nominal constants until others are given, and the level is not tested
+abbrev pub opening_with : Class → Instrument → ℤ → ℤ → Opening
+opening_with class instrument number height =
+    record { class = class; instrument = instrument; start = record { number = number; height = height }; staffs = Nominal; collimated = false }
+
 abbrev pub opening_of : Class → ℤ → ℤ → ℤ → Opening
-opening_of class instrument number height =
-    record { class = class; instrument = instrument_of instrument; start = record { number = number; height = height }; staffs = Nominal; collimated = false }
+opening_of class instrument number height = opening_with class (instrument_of instrument) number height
+
+-- where no line is opened: placeholders, which decide nothing
+abbrev pub unopened : Opening
+unopened = opening_with Fourth Ds3 (pos 0) (pos 0)
 
 abbrev pub collimated : Opening → Opening
 collimated o = record o { collimated = true }

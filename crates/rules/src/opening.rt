@@ -2,14 +2,16 @@
 ghost use Rattle.std.specs.Prelude.{◌≡◌};
 ghost use Rattle.records.specs.Refusals.{number_of};
 ghost use Rattle.rules.specs.LineState.{state_of};
+ghost use Rattle.rules.specs.Rules.{opening_with};
 ghost use Rattle.rules.specs.code.Opened.{class_named, spur_named, instrument_named, start_refusal};
 
 use super::broken::line_broken;
 use super::refusals::check_number;
 use super::{Book, Stage};
 use adjust::terms::Class;
+use adjust::{Benchmark, Opening};
 use records::Refusal;
-use station::Instrument;
+use station::{Instrument, Staffs};
 
 // The class of a line of this order; none where there is no such order.
 pub fn class_named(order: i64) -> Option<Class>
@@ -40,6 +42,19 @@ pub fn instrument_named(number: i64) -> Option<Instrument>
         3 => Some(Instrument::Ds3),
         1 => Some(Instrument::Ds1),
         _ => None,
+    }
+}
+
+// What a line is opened with.
+pub fn opening_with(class: Class, instrument: Instrument, number: i64, height: i64) -> Opening
+    ensures { result ≡ opening_with class instrument number height }
+{
+    Opening {
+        class,
+        instrument,
+        start: Benchmark { number, height },
+        staffs: Staffs::Nominal,
+        collimated: false,
     }
 }
 

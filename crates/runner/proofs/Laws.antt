@@ -21,10 +21,10 @@ use Rattle.rules.specs.declared.Book.{Book}
 use Rattle.rules.specs.LineState.{is_closed}
 use Rattle.rules.specs.declared.Stage.TheVariants.{Closed}
 use Rattle.book.specs.Calls.{closing_of, figures_refusal}
-use Rattle.ledger.specs.Plain.{Reading, fresh_reading, plain_state, figures_of}
+use Rattle.ledger.specs.Plain.{Reading, fresh_reading, plain_state, figures_of, book_of}
 use Rattle.ledger.specs.Entries.{Entry, entry_of, after_entries}
 use Rattle.ledger.proofs.Kept.{Kept, fresh_kept}
-use Rattle.ledger.proofs.Again.{book_of, held, figures_number}
+use Rattle.ledger.proofs.Again.{held, figures_number}
 use Rattle.ledger.proofs.Entries.{entries_kept}
 use Rattle.runner.specs.Calls.{kind_of, record_with, first_record, first_entry, first_entries, entries_of}
 use Rattle.runner.specs.Figures.{no_figures, told}

@@ -10,10 +10,10 @@ use lib.IntN.{ℤ}
 use Rattle.numbers.specs.Numbers.{written}
 use Rattle.rules.specs.declared.Book.{Book}
 use Rattle.book.specs.Calls.{fresh_book}
-use Rattle.ledger.specs.Plain.{Reading, fresh_reading, plain_state}
+use Rattle.ledger.specs.Plain.{Reading, fresh_reading, plain_state, book_of}
 use Rattle.ledger.specs.Entries.{Entry, entry_refusal, entry_next, entry_number, entry_book, entry_refusals, after_entries}
 use Rattle.ledger.proofs.Kept.{Kept, fresh_kept}
-use Rattle.ledger.proofs.Again.{book_of, fresh_holds}
+use Rattle.ledger.proofs.Again.{fresh_holds}
 use Rattle.ledger.proofs.Entries.{entry_kept, entry_number_lem, entry_book_lem}
 use Rattle.runner.specs.Calls.{first_entry, entries_of}
 use Rattle.runner.proofs.Laws.{entries_chunk, entries_none, stores_written}

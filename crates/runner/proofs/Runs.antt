@@ -6,11 +6,10 @@ use Rattle.adjust.specs.declared.LineFigures.{LineFigures}
 use Rattle.adjust.specs.Frames.{adjusted_of}
 use Rattle.adjust.specs.Sections.{holding}
 use Rattle.rules.specs.declared.Stage.TheVariants.{Closed}
-use Rattle.ledger.specs.Plain.{Reading, fresh_reading, after}
+use Rattle.ledger.specs.Plain.{Reading, fresh_reading, after, book_of}
 use Rattle.ledger.specs.Entries.{calls_of}
 use Rattle.ledger.proofs.Kept.{calls_kept}
 use Rattle.ledger.proofs.Every.{every_list, same_figures}
-use Rattle.ledger.proofs.Again.{book_of}
 use Rattle.ledger.proofs.Entries.{reading_calls, numbers_calls}
 use Rattle.ledger.proofs.Traced.{every_trace}
 use Rattle.runner.specs.Calls.{entries_of}

@@ -10,7 +10,8 @@ use Rattle.records.specs.declared.Refusal.TheVariants.{NotARecord}
 use Rattle.records.specs.declared.Tag.{Tag}
 use Rattle.records.specs.declared.Tag.TheVariants.{Lin, Sta, Run, Drr, Drs, End, Spr, Fin, Ang}
 use Rattle.rules.specs.declared.call.Call.TheVariants.{OpenLine as open_line, Station as station, CloseLine as close_line, OpenSpur as open_spur, CloseSpur as close_spur, Collimation as collimation}
-use Rattle.ledger.specs.Entries.{Entry, asks, refused, entry_of}
+use Rattle.ledger.specs.Plain.{Reading, fresh_reading}
+use Rattle.ledger.specs.Entries.{Entry, asks, refused, entry_of, entry_refusals, after_entries}
 
 -- the tag of a kind
 unfoldable pub kind_of : ℤ → Option Tag
@@ -46,6 +47,14 @@ first_entries (suc n) xs = first_entry xs ∷ first_entries n (drop 11 xs)
 -- all entries; a rest of 1 to 10 numbers is one too
 abbrev pub entries_of : List ℤ → List Entry
 entries_of xs = first_entries ((length xs + 10) / 11) xs
+
+-- what the entries of a list leave, the first on a fresh book
+abbrev pub reading_after : List ℤ → Reading
+reading_after xs = after_entries fresh_reading (entries_of xs)
+
+-- and their numbers, 0 for one whose call is taken
+abbrev pub numbers_of : List ℤ → List ℕ
+numbers_of xs = entry_refusals fresh_reading (entries_of xs)
 
 -- ---- worked
 

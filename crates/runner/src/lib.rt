@@ -4,11 +4,9 @@
 ghost use Rattle.std.specs.Prelude.{◌≡◌, length, set};
 ghost use Rattle.numbers.specs.Numbers.{written};
 ghost use Rattle.records.specs.Refusals.{number_of};
-ghost use Rattle.rules.specs.LineState.{book_with};
-ghost use Rattle.book.specs.Calls.{fresh_book};
-ghost use Rattle.ledger.specs.Plain.{fresh_reading, plain_state};
-ghost use Rattle.ledger.specs.Entries.{entry_number, entry_book, entry_refusals, after_entries};
-ghost use Rattle.runner.specs.Calls.{kind_of, first_record, first_entry, entries_of};
+ghost use Rattle.ledger.specs.Plain.{book_of};
+ghost use Rattle.ledger.specs.Entries.{entry_number, entry_book};
+ghost use Rattle.runner.specs.Calls.{kind_of, first_record, first_entry, entries_of, reading_after, numbers_of};
 ghost use Rattle.runner.specs.Figures.{book_figures};
 
 use book::calls::enter;
@@ -68,8 +66,8 @@ fn put_number(numbers: &mut [u8], k: usize, number: u8)
 
 // The entries one after another, the first on a fresh book. Each entry's number goes into its place of the lent list, where there is one.
 pub fn run_calls(calls: &[i64], numbers: &mut [u8]) -> Book
-    ensures book { result ≡ book_with fresh_book (plain_state (after_entries fresh_reading (entries_of calls.now))) }
-    ensures numbers { numbers.new ≡ written (entry_refusals fresh_reading (entries_of calls.now)) numbers.old }
+    ensures book { result ≡ book_of (reading_after calls.now) }
+    ensures numbers { numbers.new ≡ written (numbers_of calls.now) numbers.old }
 {
     let mut book = book::fresh();
     for (k, entry) in calls.chunks(11).enumerate() {
@@ -83,8 +81,8 @@ pub fn run_calls(calls: &[i64], numbers: &mut [u8]) -> Book
 // as far as it has places. The answer is how many entries there are, whether or not their numbers had places.
 pub fn level_run(calls: &[i64], numbers: &mut [u8], figures: &mut [i64]) -> usize
     ensures count { result ≡ length (entries_of calls.now) }
-    ensures numbers { numbers.new ≡ written (entry_refusals fresh_reading (entries_of calls.now)) numbers.old }
-    ensures figures { figures.new ≡ written (book_figures (book_with fresh_book (plain_state (after_entries fresh_reading (entries_of calls.now))))) figures.old }
+    ensures numbers { numbers.new ≡ written (numbers_of calls.now) numbers.old }
+    ensures figures { figures.new ≡ written (book_figures (book_of (reading_after calls.now))) figures.old }
 {
     let book = run_calls(calls, numbers);
     figures::put_book(&book, figures);

@@ -11,10 +11,10 @@ use Rattle.columns.specs.Texts.{lines}
 use Rattle.columns.proofs.Texts.{lines_end}
 use Rattle.rules.specs.declared.Book.{Book}
 use Rattle.book.specs.Calls.{fresh_book}
-use Rattle.ledger.specs.Plain.{Reading, fresh_reading, plain_state}
+use Rattle.ledger.specs.Plain.{Reading, fresh_reading, plain_state, book_of}
 use Rattle.ledger.specs.Entries.{Entry, entry_refusal, entry_next, entry_number, entry_book}
 use Rattle.ledger.proofs.Kept.{Kept, fresh_kept}
-use Rattle.ledger.proofs.Again.{book_of, fresh_holds}
+use Rattle.ledger.proofs.Again.{fresh_holds}
 use Rattle.ledger.proofs.Entries.{entry_kept, entry_number_lem, entry_book_lem}
 use Rattle.textbook.specs.declared.text.State.{State}
 use Rattle.textbook.specs.Text.{most_text, line_entry, line_refusals, reading_after}

@@ -3,9 +3,8 @@ use Rattle.std.specs.Prelude.{cond, List, [], ◌∷◌, ℕ, zero, suc, ◌*◌
 use Rattle.numbers.specs.Numbers.{filled}
 use Rattle.columns.specs.Decimals.{same}
 use Rattle.columns.specs.Lines.{heading}
-use Rattle.rules.specs.LineState.{book_with}
 use Rattle.book.specs.Calls.{fresh_book}
-use Rattle.ledger.specs.Plain.{Reading, fresh_reading, plain_state}
+use Rattle.ledger.specs.Plain.{Reading, fresh_reading, book_of}
 use Rattle.textbook.specs.declared.text.State.{State}
 use Rattle.textbook.specs.Text.{line_refusals, reading_after}
 
@@ -18,7 +17,7 @@ text_from text (suc k) = drop (84 * k) text
 
 -- the book holds the reading r, and the lines after the heading have the refusal numbers ns, which all have a place where the text is not too long
 abbrev pub read : Reading → List ℕ → State
-read r ns = record { book = book_with fresh_book (plain_state r); refusals = filled 0 778 (0 ∷ 0 ∷ ns) }
+read r ns = record { book = book_of r; refusals = filled 0 778 (0 ∷ 0 ∷ ns) }
 
 -- what the lines after the heading leave
 abbrev pub after_heading : List (List ℕ) → State
