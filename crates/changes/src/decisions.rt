@@ -17,7 +17,7 @@ use records::Refusal;
 use rules::call::Call;
 use rules::closing::check_close;
 use rules::opening::{check_start, class_named, instrument_named, opening_with, spur_named};
-use rules::refusals::{check_collimation, check_drop, check_end, check_station};
+use rules::refusals::{check_collimation, check_drop, check_run_end, check_station};
 use rules::{Book, Line};
 use station::Instrument;
 
@@ -68,7 +68,7 @@ fn collimation_change(b: &Book, x: [i64; 6]) -> Result<Change, Refusal>
 fn end_change(b: &Book, number: i64) -> Result<Change, Refusal>
     ensures { Decides b.now (end_run number) result }
 {
-    check_end(b, number)?;
+    check_run_end(b, number)?;
     Ok(run_ended(&b.line, number))
 }
 

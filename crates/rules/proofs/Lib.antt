@@ -3,4 +3,5 @@
 pub mod Tables
 pub mod Parts
 pub mod Unbroken
+pub mod Last
 pub mod Worked

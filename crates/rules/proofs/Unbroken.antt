@@ -13,9 +13,7 @@ use borrow.Author.Tests.{lt-ltb}
 use Rattle.numbers.specs.Numbers.{within, between}
 use Rattle.numbers.proofs.Tests.{holds, fails, no_true, and_l, and_r, or_l, or_r, not-false}
 use Rattle.numbers.proofs.Sizes.{between_size, within_size}
-use Rattle.adjust.specs.declared.Sections.{Sections}
-use Rattle.adjust.specs.Sections.{sections_of, height_in_range}
-use Rattle.adjust.proofs.Holding.{sections_count}
+use Rattle.adjust.specs.Sections.{height_in_range}
 use Rattle.adjust.specs.Terms.{terms_of}
 use Rattle.rules.specs.declared.Run.{Run}
 use Rattle.rules.specs.declared.Outward.{Outward}
@@ -76,6 +74,10 @@ unbroken l count e =
       placed = or_r (n || u || w || s || t) (misplaced l count) e;
     }
 
+-- a place for each section
+pub few : (l : Line) (count : ℕ) → line_broken l count ≡ false → count ≤ 64
+few l count e = (unbroken l count e).few
+
 -- both runs together
 pub small_runs : (l : Line) (count : ℕ) → Unbroken l count → SmallRuns l.waiting l.present
 small_runs l count u = go l.waiting u.waiting
@@ -84,13 +86,8 @@ small_runs l count u = go l.waiting u.waiting
     go None h = u.present
     go (Some w) h = (h.0, u.present)
 
--- no section stands where none is counted
-empty_length : {A : Type 0} (xs : List A) → is_empty xs ≡ eqb (length xs) 0
-empty_length [] = refl
-empty_length (x ∷ xs) = sym (eqb-suc-zero (length xs))
-
-pub empty_count : (s : Sections) → is_empty (sections_of s) ≡ eqb s.count 0
-empty_count s = empty_length (sections_of s) ∙ ap (λ (n : ℕ). eqb n 0) (sections_count s)
+pub small_standing : (l : Line) (count : ℕ) → line_broken l count ≡ false → SmallRuns l.waiting l.present
+small_standing l count e = small_runs l count (unbroken l count e)
 
 -- a list that is not empty has a length above 0
 pub some_long : {A : Type 0} (xs : List A) → is_empty xs ≡ false → ltb 0 (length xs) ≡ true

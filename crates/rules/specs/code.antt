@@ -2,3 +2,4 @@
 pub mod Bounds
 pub mod Opened
 pub mod Closed
+pub mod Standing

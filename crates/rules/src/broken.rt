@@ -3,7 +3,6 @@ ghost use Rattle.std.specs.Prelude.{◌≡◌};
 ghost use Rattle.rules.specs.LineState.{run_fits, waiting_broken, misplaced, line_broken};
 
 use super::{Book, Line, Outward, Run, Stage};
-use adjust::terms::terms_of;
 
 fn run_fits(run: &Run) -> bool
     ensures { result ≡ run_fits run.now }
@@ -18,10 +17,7 @@ fn run_fits(run: &Run) -> bool
 fn waiting_broken(waiting: &Option<Outward>, count: usize) -> bool
     ensures { result ≡ waiting_broken waiting.now count }
 {
-    match waiting {
-        Some(outward) => !run_fits(&outward.run) || 64 <= count,
-        None => false,
-    }
+    waiting.is_some_and(|outward| !run_fits(&outward.run) || 64 <= count)
 }
 
 fn is_misplaced(line: &Line, count: usize) -> bool
@@ -31,7 +27,7 @@ fn is_misplaced(line: &Line, count: usize) -> bool
     match line.stage {
         Stage::Fresh if count != 0 || line.present.count != 0 || waits => true,
         Stage::Closed if count == 0 => true,
-        _ => waits && !terms_of(line.opening.class).double,
+        _ => waits && !line.opening.class.terms().double,
     }
 }
 

@@ -1,20 +1,21 @@
 // The refusals of closing, and of asking for the figures of a closed line.
-ghost use Rattle.std.specs.Prelude.{◌≡◌, true, false, ◌≤◌};
+ghost use Rattle.std.specs.Prelude.{◌≡◌, true, false, not, ◌&&◌};
+ghost use Rattle.numbers.specs.Numbers.{eq_z};
 ghost use Rattle.numbers.specs.Tables.{first_of};
 ghost use Rattle.records.specs.Refusals.{number_of};
-ghost use Rattle.adjust.specs.Sections.{sections_of, height_in_range};
+ghost use Rattle.adjust.specs.Sections.{misfit, height_in_range};
 ghost use Rattle.adjust.specs.Frames.{figures_fit};
 ghost use Rattle.rules.specs.LineState.{state_of, is_shut};
 ghost use Rattle.rules.specs.code.Closed.{closing_on, close_input_tests};
+ghost use Rattle.rules.specs.code.Standing.{standing_of};
 ghost use Rattle.rules.specs.declared.call.Call.TheVariants.{CloseLine as close_line};
-ghost use Rattle.rules.specs.Rules.{close_tests, length_limit, total_tests, line_tests, state_tests, figures_tests, broken_in, book_refusal};
+ghost use Rattle.rules.specs.Rules.{close_tests, length_limit, total_tests, line_tests, state_tests, figures_tests, book_refusal};
 
-use super::broken::line_broken;
-use super::position::{began, is_shut};
 use super::refusals::check_number;
-use super::{Book, Stage};
+use super::standing::Standing;
+use super::{Book, Line, Stage};
 use adjust::Totals;
-use adjust::terms::{Terms, terms_of};
+use adjust::terms::Terms;
 use records::Refusal;
 use roots::limits::within;
 
@@ -30,10 +31,10 @@ fn check_input(number: i64, end: Option<i64>) -> Result<(), Refusal>
     ensures { number_of result ≡ first_of (close_input_tests number end) }
 {
     check_number(number)?;
-    match end {
-        Some(height) if !adjust::height_in_range(height) => Err(Refusal::KnownHeight),
-        _ => Ok(()),
+    if end.is_some_and(|height| !adjust::height_in_range(height)) {
+        return Err(Refusal::KnownHeight);
     }
+    Ok(())
 }
 
 // A line by its length and its closure.
@@ -50,57 +51,57 @@ fn check_totals(terms: &Terms, shut: bool, t: &Totals) -> Result<(), Refusal>
     Ok(())
 }
 
-// The same of a book with sections, up to the known height at its end. There are totals, since the figures fit.
-fn check_line(b: &Book, end: i64, shut: bool) -> Result<(), Refusal>
-    requires { (b.now.sections.count ≤ 64) × ((figures_fit b.now.line.opening.start.height end (sections_of b.now.sections) ≡ true) × (shut ≡ is_shut (state_of b.now))) }
-    ensures { number_of result ≡ first_of (line_tests (state_of b.now) end) }
+// The same of a line with sections, up to the known height at its end. There are totals, since the figures fit.
+fn check_line(standing: &Standing, end: i64, shut: bool) -> Result<(), Refusal>
+    requires fit { figures_fit standing.now.line.now.opening.start.height end standing.now.sections.now ≡ true }
+    requires shut { shut ≡ is_shut (standing_of standing.now) }
+    ensures { number_of result ≡ first_of (line_tests (standing_of standing.now) end) }
 {
-    let opening = &b.line.opening;
-    match adjust::totals_of(opening.start.height, end, b.sections.listed()) {
-        Some(t) => check_totals(&terms_of(opening.class), shut, &t),
+    let opening = standing.line.opening;
+    match adjust::totals_of(opening.start.height, end, standing.sections) {
+        Some(t) => check_totals(&opening.class.terms(), shut, &t),
         None => Err(Refusal::Broken),
     }
 }
 
 // Of a closing by END or by FIN, up to 34.
-fn check_place(b: &Book, other: bool, number: i64, unlike: bool) -> Result<(), Refusal>
-    requires { b.now.sections.count ≤ 64 }
-    ensures { number_of result ≡ first_of (close_tests (state_of b.now) other number unlike) }
+fn check_place(standing: &Standing, other: bool, number: i64, unlike: bool) -> Result<(), Refusal>
+    ensures { number_of result ≡ first_of (close_tests (standing_of standing.now) other number unlike) }
 {
-    let line = &b.line;
+    let line = standing.line;
     if line.stage != Stage::Open {
         return Err(Refusal::Stage);
     }
     if other {
         return Err(Refusal::ClosingKind);
     }
-    if line.present.count != 0 || line.waiting.is_some() || b.sections.count == 0 {
+    if line.present.count != 0 || line.waiting.is_some() || standing.sections.is_empty() {
         return Err(Refusal::Unfinished);
     }
-    if number != began(b) || unlike {
+    if number != standing.began() || unlike {
         return Err(Refusal::ClosingBenchmark);
     }
     Ok(())
 }
 
-// Refusal 20 of a book all of whose sections are read.
-fn is_broken(b: &Book) -> bool
-    ensures { result ≡ broken_in true (state_of b.now) }
+// Whether the known height at the end is not that of the start, as it must be on a loop.
+fn is_unlike(line: &Line, shut: bool, height: i64) -> bool
+    ensures { result ≡ (shut && not (eq_z height line.now.opening.start.height)) }
 {
-    b.sections.misfit() || line_broken(b)
+    shut && height != line.opening.start.height
 }
 
-// What the state of a book that is not broken causes to closing it on a known height.
-fn check_known_end(b: &Book, number: i64, height: i64) -> Result<(), Refusal>
-    requires { (broken_in true (state_of b.now) ≡ false) × (height_in_range height ≡ true) }
-    ensures { number_of result ≡ first_of (state_tests (state_of b.now) (close_line number height)) }
+// What a line, all of whose sections are in range, causes to closing it on a known height.
+fn check_close_on(standing: &Standing, number: i64, height: i64) -> Result<(), Refusal>
+    requires sections { misfit standing.now.sections.now ≡ false }
+    requires height { height_in_range height ≡ true }
+    ensures { number_of result ≡ first_of (state_tests (standing_of standing.now) (close_line number height)) }
 {
-    let opening = &b.line.opening;
-    let shut = is_shut(b);
-    let terms = terms_of(opening.class);
-    let unlike = shut & (height != opening.start.height);
-    check_place(b, !terms.tied, number, unlike)?;
-    check_line(b, height, shut)
+    let shut = standing.is_shut();
+    let unlike = is_unlike(standing.line, shut, height);
+    let other = !standing.line.opening.class.terms().tied;
+    check_place(standing, other, number, unlike)?;
+    check_line(standing, height, shut)
 }
 
 // Of closing on a number, and on a known height where the line is no spur.
@@ -109,22 +110,21 @@ pub fn check_close(b: &Book, number: i64, end: Option<i64>) -> Result<(), Refusa
     ensures { number_of result ≡ book_refusal (state_of b.now) (closing_on number end) }
 {
     check_input(number, end)?;
-    if is_broken(b) {
-        return Err(Refusal::Broken);
-    }
+    let standing = Standing::of_read(b)?;
     match end {
-        Some(height) => check_known_end(b, number, height),
-        None => check_place(b, terms_of(b.line.opening.class).tied, number, false),
+        Some(height) => check_close_on(&standing, number, height),
+        None => {
+            let other = standing.line.opening.class.terms().tied;
+            check_place(&standing, other, number, false)
+        }
     }
 }
 
 pub fn check_figures(b: &Book) -> Result<(), Refusal>
     ensures { number_of result ≡ first_of (figures_tests (state_of b.now)) }
 {
-    if is_broken(b) {
-        return Err(Refusal::Broken);
-    }
-    if b.line.stage != Stage::Closed {
+    let line = Standing::of_read(b)?.line;
+    if line.stage != Stage::Closed {
         return Err(Refusal::Stage);
     }
     Ok(())

@@ -7,8 +7,8 @@ mod broken;
 pub mod call;
 pub mod closing;
 pub mod opening;
-mod position;
 pub mod refusals;
+mod standing;
 
 #[derive(Clone, Copy, PartialEq, Eq)]
 pub enum Stage {

@@ -5,8 +5,8 @@ ghost use Rattle.rules.specs.LineState.{state_of};
 ghost use Rattle.rules.specs.Rules.{opening_with};
 ghost use Rattle.rules.specs.code.Opened.{class_named, spur_named, instrument_named, start_refusal};
 
-use super::broken::line_broken;
 use super::refusals::check_number;
+use super::standing::Standing;
 use super::{Book, Stage};
 use adjust::terms::Class;
 use adjust::{Benchmark, Opening};
@@ -66,10 +66,7 @@ pub fn check_start(b: &Book, number: i64, height: i64) -> Result<(), Refusal>
     if !adjust::height_in_range(height) {
         return Err(Refusal::KnownHeight);
     }
-    if line_broken(b) {
-        return Err(Refusal::Broken);
-    }
-    if b.line.stage != Stage::Fresh {
+    if Standing::of(b)?.line.stage != Stage::Fresh {
         return Err(Refusal::Stage);
     }
     Ok(())

@@ -5,13 +5,13 @@ ghost use Rattle.numbers.specs.Tables.{first_of};
 ghost use Rattle.records.specs.Refusals.{number_of};
 ghost use Rattle.rules.specs.LineState.{state_of, outward_or_return, both_ways};
 ghost use Rattle.rules.specs.code.Bounds.{SmallRuns};
+ghost use Rattle.rules.specs.code.Standing.{standing_of};
 ghost use Rattle.rules.specs.declared.call.Call.TheVariants.{EndRun as end_run, DropRun as drop_run, Collimation as collimation};
-ghost use Rattle.rules.specs.Rules.{number_in_range, number_allowed, counted_length, discrepancy_within, out_of_turn, station_tests, book_station_tests, state_tests, input_tests, book_refusal};
+ghost use Rattle.rules.specs.Rules.{number_in_range, counted_length, discrepancy_within, out_of_turn, station_tests, book_station_tests, state_tests, input_tests, book_refusal};
 
-use super::broken::line_broken;
-use super::position::{began, is_shut, on_line};
+use super::standing::Standing;
 use super::{Book, Line, Outward, Run, Stage};
-use adjust::terms::{Root, order_of, terms_of};
+use adjust::terms::Root;
 use collimation::{check_angle, check_range};
 use records::Refusal;
 use roots::limits::within;
@@ -42,10 +42,7 @@ fn out_of_turn(line: &Line, kb: i64) -> bool
     if line.present.count != 0 {
         return kb != line.present.last;
     }
-    match line.waiting {
-        Some(outward) => kb == outward.run.last,
-        None => false,
-    }
+    line.waiting.is_some_and(|outward| kb == outward.run.last)
 }
 
 // The refusal that the line causes to a station with the figures f.
@@ -66,7 +63,7 @@ fn check_station_on(line: &Line, shut: bool, kb: i64, f: &Figures) -> Result<(),
         return Err(Refusal::StaffTurn);
     }
     station::judge(
-        order_of(opening.class),
+        opening.class.order(),
         opening.instrument,
         opening.staffs,
         line.present.difference,
@@ -78,10 +75,8 @@ fn check_station_on(line: &Line, shut: bool, kb: i64, f: &Figures) -> Result<(),
 pub fn check_station(b: &Book, kb: i64, f: &Figures) -> Result<(), Refusal>
     ensures { number_of result ≡ first_of (book_station_tests (state_of b.now) kb f.now) }
 {
-    if line_broken(b) {
-        return Err(Refusal::Broken);
-    }
-    check_station_on(&b.line, is_shut(b), kb, f)
+    let standing = Standing::of(b)?;
+    check_station_on(standing.line, standing.is_shut(), kb, f)
 }
 
 // ---- the collimation test
@@ -91,13 +86,11 @@ pub fn check_collimation(b: &Book, x: [i64; 6]) -> Result<(), Refusal>
     ensures { number_of result ≡ book_refusal (state_of b.now) (collimation x) }
 {
     check_range(x)?;
-    if line_broken(b) {
-        return Err(Refusal::Broken);
-    }
-    if b.line.stage != Stage::Open {
+    let line = Standing::of(b)?.line;
+    if line.stage != Stage::Open {
         return Err(Refusal::Stage);
     }
-    if b.line.opening.collimated {
+    if line.opening.collimated {
         return Err(Refusal::Collimation);
     }
     check_angle(x)
@@ -109,28 +102,14 @@ pub fn check_collimation(b: &Book, x: [i64; 6]) -> Result<(), Refusal>
 pub fn check_drop(b: &Book) -> Result<(), Refusal>
     ensures { number_of result ≡ book_refusal (state_of b.now) drop_run }
 {
-    if line_broken(b) {
-        return Err(Refusal::Broken);
-    }
-    if b.line.stage != Stage::Open {
+    let line = Standing::of(b)?.line;
+    if line.stage != Stage::Open {
         return Err(Refusal::Stage);
     }
     Ok(())
 }
 
 // ---- end run
-
-fn number_allowed(b: &Book, number: i64) -> bool
-    requires { b.now.sections.count ≤ 64 }
-    ensures { result ≡ number_allowed (state_of b.now) number }
-{
-    let line = &b.line;
-    if line.waiting.is_some() {
-        return number == began(b);
-    }
-    let start_allowed = b.sections.count != 0 && terms_of(line.opening.class).tied;
-    !on_line(b, number) && (number != line.opening.start.number || start_allowed)
-}
 
 // R as it counts for D: below 0.10 km as 0.10 km.
 fn counted_length(r: i64) -> i64
@@ -144,53 +123,43 @@ fn too_far(apart: Root, waiting: &Option<Outward>, present: &Run) -> bool
     requires { SmallRuns waiting.now present.now }
     ensures { result ≡ outward_or_return waiting.now false (λ number run. not (discrepancy_within apart (both_ways number run present.now))) }
 {
-    match waiting {
-        None => false,
-        Some(outward) => !within(
-            apart.a,
-            outward.run.height + present.height,
-            apart.b,
-            counted_length(outward.run.sights + present.sights),
-        ),
-    }
+    waiting.is_some_and(|outward| {
+        let height = outward.run.height + present.height;
+        let sights = outward.run.sights + present.sights;
+        !within(apart.a, height, apart.b, counted_length(sights))
+    })
 }
 
-// What the state of a book that is not broken causes.
-fn check_end_in(b: &Book, number: i64) -> Result<(), Refusal>
-    requires { (b.now.sections.count ≤ 64) × SmallRuns b.now.line.waiting b.now.line.present }
-    ensures { number_of result ≡ first_of (state_tests (state_of b.now) (end_run number)) }
+// What a line causes that is not broken.
+#[tactic(auto, using(crate::proofs::Unbroken::small_standing))]
+fn check_run_end_on(standing: &Standing, number: i64) -> Result<(), Refusal>
+    ensures { number_of result ≡ first_of (state_tests (standing_of standing.now) (end_run number)) }
 {
-    let line = &b.line;
+    let line = standing.line;
     let stations = line.present.count;
-    if line.stage != Stage::Open || is_shut(b) {
+    if line.stage != Stage::Open || standing.is_shut() {
         return Err(Refusal::Stage);
     }
     if stations == 0 || stations % 2 == 1 {
         return Err(Refusal::StationCount);
     }
-    if line.waiting.is_none() && 64 <= b.sections.count {
+    if line.waiting.is_none() && 64 <= standing.sections.len() {
         return Err(Refusal::BookFull);
     }
-    if !number_allowed(b, number) {
+    if !standing.number_allowed(number) {
         return Err(Refusal::BenchmarkPlace);
     }
-    if too_far(
-        terms_of(line.opening.class).apart,
-        &line.waiting,
-        &line.present,
-    ) {
+    let apart = line.opening.class.terms().apart;
+    if too_far(apart, &line.waiting, &line.present) {
         return Err(Refusal::Discrepancy);
     }
     Ok(())
 }
 
 #[tactic(auto, unfolding(crate::specs::Rules::book_refusal))]
-pub fn check_end(b: &Book, number: i64) -> Result<(), Refusal>
+pub fn check_run_end(b: &Book, number: i64) -> Result<(), Refusal>
     ensures { number_of result ≡ book_refusal (state_of b.now) (end_run number) }
 {
     check_number(number)?;
-    if line_broken(b) {
-        return Err(Refusal::Broken);
-    }
-    check_end_in(b, number)
+    check_run_end_on(&Standing::of(b)?, number)
 }

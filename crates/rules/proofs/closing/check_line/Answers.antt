@@ -8,7 +8,6 @@ use Rattle.numbers.proofs.Tests.{no_true}
 use Rattle.numbers.proofs.Machine.{stored, stored_both}
 use Rattle.adjust.specs.declared.Section.{Section}
 use Rattle.adjust.specs.declared.Totals.{Totals}
-use Rattle.adjust.specs.Sections.{sections_of}
 use Rattle.adjust.specs.Line.{quarters, totals}
 use Rattle.adjust.specs.Frames.{figures_fit, line_totals}
 use Rattle.rules.specs.Rules.{total_tests}
@@ -23,23 +22,22 @@ abbrev some : Option Totals → Bool
 some (Some t) = true
 some None = false
 
-totalled : (start end : ℤ) (ss ts : List Section) → ts ≡ ss → SFits w64 start → SFits w64 end → figures_fit start end ss ≡ true
-    → line_totals (stored start) (stored end) ts ≡ Some (totals quarters start end ss)
+totalled : (start end : ℤ) (ss : List Section) → SFits w64 start → SFits w64 end → figures_fit start end ss ≡ true
+    → line_totals (stored start) (stored end) ss ≡ Some (totals quarters start end ss)
 unfolding line_totals
-totalled start end ss ts s f g e =
-    stored_both (λ x y. line_totals x y ts) f g ∙ ap (line_totals start end) s ∙ ap (λ (t : Bool). cond t (Some (totals quarters start end ss)) None) e
+totalled start end ss f g e = stored_both (λ x y. line_totals x y ss) f g ∙ ap (λ (t : Bool). cond t (Some (totals quarters start end ss)) None) e
 
 pub returns-in-Some : goal.returns-in-Some
 returns-in-Some c =
-    let b = c.args.b.now in
-    let start = b.line.opening.start.height in
+    let v = c.args.standing.now in
+    let start = v.line.now.opening.start.height in
     let f : SFits w64 start = search rules in
-    let t = ap (held c.in-Some.t) (c.in-Some.ensures ∙ totalled start c.args.end (sections_of b.sections) c.listed.result.now (c.listed.ensures.sections c.requires.0) f c.ranges.end c.requires.1.0) in
-    c.check_totals.ensures ∙ (λ i. first_of (total_tests (c.terms_of.ensures i) (c.requires.1.1 i) (t i)))
+    let t = ap (held c.in-Some.t) (c.in-Some.ensures ∙ totalled start c.args.end v.sections.now f c.ranges.end c.requires.fit) in
+    c.check_totals.ensures ∙ (λ i. first_of (total_tests (c.terms.ensures i) (c.requires.shut i) (t i)))
 
 pub returns-in-None : goal.returns-in-None
 returns-in-None c =
-    let b = c.args.b.now in
-    let start = b.line.opening.start.height in
+    let v = c.args.standing.now in
+    let start = v.line.now.opening.start.height in
     let f : SFits w64 start = search rules in
-    no_true (ap some (c.in-None.ensures ∙ totalled start c.args.end (sections_of b.sections) c.listed.result.now (c.listed.ensures.sections c.requires.0) f c.ranges.end c.requires.1.0))
+    no_true (ap some (c.in-None.ensures ∙ totalled start c.args.end v.sections.now f c.ranges.end c.requires.fit))

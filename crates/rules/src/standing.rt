@@ -1,0 +1,82 @@
+// A line and its finished sections, as they stand in a book that is not broken, and the benchmarks on the line.
+ghost use Rattle.std.specs.Prelude.{◌≡◌, IfOk, cond, true, false, length};
+ghost use Rattle.rules.specs.LineState.{line_broken};
+
+use super::broken::line_broken;
+use super::{Book, Line};
+use adjust::Section;
+use records::Refusal;
+
+#[derive(Clone, Copy)]
+pub(crate) struct Standing<'a> {
+    pub(crate) line: &'a Line,
+    pub(crate) sections: &'a [Section],
+    ghost unbroken: { line_broken line.now (length sections.now) ≡ false },
+}
+
+impl<'a> Standing<'a> {
+    ghost use Rattle.records.specs.Refusals.{number_of};
+    ghost use Rattle.rules.specs.LineState.{state_of, on_line, is_shut, began};
+    ghost use Rattle.rules.specs.Rules.{broken_in, number_allowed};
+    ghost use Rattle.rules.specs.code.Standing.{standing_of};
+
+    // Those of a book; 20 where its line is broken.
+    #[tactic(auto, using(crate::proofs::Unbroken::few, adjust::proofs::Holding::sections_count))]
+    pub(crate) fn of(b: &'a Book) -> Result<Self, Refusal>
+        ensures number { number_of result ≡ cond (broken_in false (state_of b.now)) 20 0 }
+        ensures state { IfOk result (λ s. standing_of s ≡ state_of b.now) }
+    {
+        if line_broken(b) {
+            return Err(Refusal::Broken);
+        }
+        Ok(Standing {
+            line: &b.line,
+            sections: b.sections.listed(),
+        })
+    }
+
+    // The same of a book all of whose sections are read.
+    pub(crate) fn of_read(b: &'a Book) -> Result<Self, Refusal>
+        ensures number { number_of result ≡ cond (broken_in true (state_of b.now)) 20 0 }
+        ensures state { IfOk result (λ s. standing_of s ≡ state_of b.now) }
+    {
+        if b.sections.misfit() {
+            return Err(Refusal::Broken);
+        }
+        Standing::of(b)
+    }
+
+    // Whether a finished section ends on the benchmark.
+    pub(crate) fn on_line(&self, number: i64) -> bool
+        ensures { result ≡ on_line (standing_of self.now) number }
+    {
+        self.sections.iter().any(|section| section.number == number)
+    }
+
+    // Whether one ends on the start.
+    pub(crate) fn is_shut(&self) -> bool
+        ensures { result ≡ is_shut (standing_of self.now) }
+    {
+        self.on_line(self.line.opening.start.number)
+    }
+
+    // The benchmark where the present section began.
+    pub(crate) fn began(&self) -> i64
+        ensures { result ≡ began (standing_of self.now) }
+    {
+        let start = self.line.opening.start.number;
+        self.sections.last().map_or(start, |section| section.number)
+    }
+
+    // Whether a run may end on the benchmark.
+    pub(crate) fn number_allowed(&self, number: i64) -> bool
+        ensures { result ≡ number_allowed (standing_of self.now) number }
+    {
+        let line = self.line;
+        if line.waiting.is_some() {
+            return number == self.began();
+        }
+        let start_allowed = !self.sections.is_empty() && line.opening.class.terms().tied;
+        !self.on_line(number) && (number != line.opening.start.number || start_allowed)
+    }
+}
