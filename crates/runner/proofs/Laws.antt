@@ -26,7 +26,7 @@ use Rattle.ledger.specs.Entries.{Entry, entry_of, after_entries}
 use Rattle.ledger.proofs.Kept.{Kept, fresh_kept}
 use Rattle.ledger.proofs.Again.{held, figures_number}
 use Rattle.ledger.proofs.Entries.{entries_kept}
-use Rattle.runner.specs.Calls.{kind_of, record_with, first_record, first_entry, first_entries, entries_of}
+use Rattle.runner.specs.Calls.{tag_of, record_with, first_record, first_entry, first_entries, entries_of}
 use Rattle.runner.specs.Figures.{no_figures, told}
 
 -- ---- entries
@@ -65,7 +65,7 @@ first_take : (xs : List ℤ) → first_record (take 11 xs) ≡ first_record xs
 unfolding first_record
 first_take [] = refl
 first_take (x ∷ xs) =
-    λ i. cond (leb_take 11 (x ∷ xs) i) (record_with (kind_of x) (take_all 10 (take 10 xs) (omega (arith, length-take 10 xs)) i)) (Err NotARecord)
+    λ i. cond (leb_take 11 (x ∷ xs) i) (record_with (tag_of x) (take_all 10 (take 10 xs) (omega (arith, length-take 10 xs)) i)) (Err NotARecord)
 
 count_next : (all chunk rest : ℕ) → all ≡ chunk + rest → chunk ≡ min 11 all → 0 < all → (all + 10) / 11 ≡ suc ((rest + 10) / 11)
 count_next all chunk rest parts size some = omega arith

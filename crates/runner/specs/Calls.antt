@@ -14,8 +14,8 @@ use Rattle.ledger.specs.Plain.{Reading, fresh_reading}
 use Rattle.ledger.specs.Entries.{Entry, asks, refused, entry_of, entry_refusals, after_entries}
 
 -- the tag of a kind
-unfoldable pub kind_of : ℤ → Option Tag
-kind_of k =
+unfoldable pub tag_of : ℤ → Option Tag
+tag_of k =
     cond (eq_z k (pos 1)) (Some Lin)
     (cond (eq_z k (pos 2)) (Some Sta)
     (cond (eq_z k (pos 3)) (Some Run)
@@ -34,7 +34,7 @@ record_with None v = Err NotARecord
 
 -- the first record of a list, refused where the list is too short for it
 unfoldable pub first_record : List ℤ → Result Record Refusal
-first_record xs = cond (leb 11 (length xs)) (record_with (kind_of (get_or xs 0 (pos 0))) (take 10 (drop 1 xs))) (Err NotARecord)
+first_record xs = cond (leb 11 (length xs)) (record_with (tag_of (get_or xs 0 (pos 0))) (take 10 (drop 1 xs))) (Err NotARecord)
 
 abbrev pub first_entry : List ℤ → Entry
 first_entry xs = entry_of (first_record xs)
@@ -77,7 +77,7 @@ pub example_entries : entries_of example
     ∷ asks (station (pos 4687) (pos 4787) ((pos 1571 ∷ pos 1197 ∷ pos 1384 ∷ pos 6171 ∷ []) ∷ (pos 739 ∷ pos 363 ∷ pos 551 ∷ pos 5239 ∷ []) ∷ []))
     ∷ asks (close_line (pos 2) (negsuc 0)) ∷ asks (open_spur (pos 4) (pos 3) (pos 1) (pos 10000)) ∷ asks (close_spur (pos 2))
     ∷ asks (collimation (pos 5937 ∷ pos 5951 ∷ pos 6043 ∷ pos 6067 ∷ pos 6800 ∷ pos 40300 ∷ [])) ∷ refused 1 ∷ refused 1 ∷ []
-unfolding first_entries first_record kind_of
+unfolding first_entries first_record tag_of
 example_entries = refl
 
 pub example_written : (written {A = ℕ} (1 ∷ 2 ∷ 3 ∷ []) (7 ∷ 8 ∷ []) ≡ 1 ∷ 2 ∷ []) × (written {A = ℕ} (1 ∷ []) (7 ∷ 8 ∷ []) ≡ 1 ∷ 8 ∷ [])

@@ -6,7 +6,7 @@ ghost use Rattle.numbers.specs.Numbers.{written};
 ghost use Rattle.records.specs.Refusals.{number_of};
 ghost use Rattle.ledger.specs.Plain.{book_of};
 ghost use Rattle.ledger.specs.Entries.{entry_number, entry_book};
-ghost use Rattle.runner.specs.Calls.{kind_of, first_record, first_entry, entries_of, reading_after, numbers_of};
+ghost use Rattle.runner.specs.Calls.{tag_of, first_record, first_entry, entries_of, reading_after, numbers_of};
 ghost use Rattle.runner.specs.Figures.{book_figures};
 
 use book::calls::enter;
@@ -17,9 +17,9 @@ use rules::call::Call;
 mod figures;
 
 // The tag of a kind.
-#[tactic(auto, unfolding(crate::specs::Calls::kind_of))]
-fn kind_of(number: i64) -> Option<Tag>
-    ensures { result ≡ kind_of number }
+#[tactic(auto, unfolding(crate::specs::Calls::tag_of))]
+fn tag_of(number: i64) -> Option<Tag>
+    ensures { result ≡ tag_of number }
 {
     match number {
         1 => Some(Tag::Lin),
@@ -41,7 +41,7 @@ fn first_record(list: &[i64]) -> Result<Record, Refusal>
     ensures { result ≡ first_record list.now }
 {
     let (kind, values) = list.split_first().ok_or(Refusal::NotARecord)?;
-    let tag = kind_of(*kind).ok_or(Refusal::NotARecord)?;
+    let tag = tag_of(*kind).ok_or(Refusal::NotARecord)?;
     let values = values.first_chunk().copied().ok_or(Refusal::NotARecord)?;
     Ok(Record { tag, values })
 }
