@@ -30,7 +30,8 @@ impl From<Leg> for Section {
     }
 }
 
-// The legs as sections, and zeros behind them.
+// The legs as sections, and zeros behind them. By index: of `iter_mut` zipped with the legs a proof has no name for the array as it stands, and of `from_fn` it
+// knows each call and not the list.
 fn sections_from(legs: &[Leg]) -> [Section; 64]
     requires { length legs.now ≤ 64 }
     ensures { result ≡ filled no_section 64 (leg_sections legs.now) }

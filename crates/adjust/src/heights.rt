@@ -53,7 +53,7 @@ impl Frame {
         }
     }
 
-    // The start, under its number, and a point for each section.
+    // The start, under its number, and a point for each section. By index, as `put_heights` writes.
     pub(crate) fn points(self, number: i64, sections: &[Section]) -> [Point; 65]
         requires { Framed self × Fits sections.now × (self.total ≡ line_length sections.now) }
         ensures { result ≡ filled no_point 65 (points self number sections.now) }
