@@ -27,11 +27,8 @@ use Rattle.rules.proofs.Tables.{book_fails}
 use Rattle.rules.proofs.Unbroken.{unbroken, some_long, closed_some}
 use Rattle.book.specs.declared.Outcome.{Outcome}
 use Rattle.book.specs.Calls.{Answers, closing_of, figures_refusal}
+use Rattle.book.specs.code.Made.{Fit}
 use Rattle.book.proofs.Joined.{left}
-
--- the figures that a line can give on the end height that it has
-abbrev pub Fit : LineState → Type 0
-Fit v = figures_fit v.line.opening.start.height v.line.end v.sections ≡ true
 
 module _ (b : Book) where
   abbrev ss : List Section

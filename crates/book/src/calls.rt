@@ -1,14 +1,12 @@
 // The calls of a book. Each gives its answer and the book after it; a refused call leaves the very book.
-ghost use Rattle.std.specs.Prelude.{◌≡◌, true, IfOk};
+ghost use Rattle.std.specs.Prelude.{◌≡◌, IfOk};
 ghost use Rattle.records.specs.Refusals.{number_of};
-ghost use Rattle.adjust.specs.Sections.{sections_of};
-ghost use Rattle.adjust.specs.Line.{closing};
-ghost use Rattle.adjust.specs.Frames.{figures_fit, adjusted_of};
+ghost use Rattle.adjust.specs.Frames.{adjusted_of};
 ghost use Rattle.rules.specs.LineState.{state_of};
 ghost use Rattle.rules.specs.declared.call.Call.TheVariants.{OpenLine as open_line, Station as station, EndRun as end_run, DropRun as drop_run, DropSection as drop_section, CloseLine as close_line, OpenSpur as open_spur, CloseSpur as close_spur, Collimation as collimation};
 ghost use Rattle.rules.specs.Rules.{book_refusal};
-ghost use Rattle.book.specs.Calls.{book_after, Answers, Closes, Tells};
-ghost use Rattle.book.specs.code.Made.{Makes};
+ghost use Rattle.book.specs.Calls.{book_after, Answers, closing_of, Closes, Tells};
+ghost use Rattle.book.specs.code.Made.{Makes, Fit};
 
 use super::Outcome;
 use adjust::{LineFigures, Section};
@@ -115,18 +113,18 @@ pub fn drop_section(b: Book) -> Outcome<()>
 
 // The figures of a closed book whose figures fit.
 fn figures_that_fit(b: &Book) -> Result<LineFigures, Refusal>
-    requires { figures_fit b.now.line.opening.start.height b.now.line.end (sections_of b.now.sections) ≡ true }
+    requires { Fit (state_of b.now) }
     ensures number { number_of result ≡ 0 }
-    ensures figures { IfOk result (λ f. f ≡ adjusted_of (closing b.now.line.opening b.now.line.end (sections_of b.now.sections))) }
+    ensures figures { IfOk result (λ f. f ≡ adjusted_of (closing_of (state_of b.now))) }
 {
     adjust::adjusted_line(&b.line.opening, b.line.end, b.sections.listed()).ok_or(Refusal::Broken)
 }
 
 // What closing gives of the book that it left, or its refusal.
 fn closed(taken: Outcome<()>) -> Outcome<LineFigures>
-    requires { IfOk taken.answer (λ _. figures_fit taken.book.line.opening.start.height taken.book.line.end (sections_of taken.book.sections) ≡ true) }
+    requires { IfOk taken.answer (λ _. Fit (state_of taken.book)) }
     ensures number { number_of result.answer ≡ number_of taken.answer }
-    ensures figures { IfOk result.answer (λ f. f ≡ adjusted_of (closing taken.book.line.opening taken.book.line.end (sections_of taken.book.sections))) }
+    ensures figures { IfOk result.answer (λ f. f ≡ adjusted_of (closing_of (state_of taken.book))) }
     ensures book { result.book ≡ taken.book }
 {
     let book = taken.book;

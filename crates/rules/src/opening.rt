@@ -13,7 +13,7 @@ use adjust::{Benchmark, Opening};
 use records::Refusal;
 use station::{Instrument, Staffs};
 
-// The class of a line of this order; none where there is no such order.
+// The class of a line of this order; none where there is no such order. No `TryFrom`: an order names two classes, of a line and of a spur.
 pub fn class_named(order: i64) -> Option<Class>
     ensures { result ≡ class_named order }
 {
