@@ -74,3 +74,7 @@ figures_refusal b = first_of (figures_tests (state_of b))
 pub record Tells (b : Book) (r : Result LineFigures Refusal) : Type 0 where
   pub number : number_of r ≡ figures_refusal b
   pub figures : IfOk r (λ f. f ≡ adjusted_of (closing_of (state_of b)))
+
+-- the figures that a closed book tells
+abbrev pub told_of : Book → LineFigures
+told_of b = adjusted_of (closing_of (state_of b))

@@ -153,16 +153,16 @@ digits_below (suc k) n p h =
     some zero q l = absurd (omega arith)
     some (suc k) q l = omega arith
 
+pub pow-pos : (k : ℕ) → 1 ≤ 10 ^ k
+pow-pos zero = omega arith
+pow-pos (suc k) = omega (arith, pow-suc 10 k, pow-pos k)
+
 -- and one from 10 ^ k on has more
 pub digits_above : (k n : ℕ) → 10 ^ k ≤ n → k < length (digits n)
 digits_above zero n h = digits_some n
 digits_above (suc k) n h =
     one_or_more n (λ s. absurd (omega (arith, pow-suc 10 k, pow-pos k)))
     (λ l. omega (arith, length_large n l, digits_above k (n / 10) (omega (arith, pow-suc 10 k))))
-  where
-    pow-pos : (k : ℕ) → 1 ≤ 10 ^ k
-    pow-pos zero = omega arith
-    pow-pos (suc k) = omega (arith, pow-suc 10 k, pow-pos k)
 
 -- the logarithm
 pub digits_log : (k n : ℕ) → 10 ^ k ≤ n → n < 10 * 10 ^ k → length (digits n) ≡ k + 1

@@ -4,21 +4,20 @@ use mathlib.Core.Bool.{Bool, true, false, cond}
 use mathlib.Core.List.{List, [], ◌∷◌, ◌++◌, append-nil}
 use Prim.Native.Nat.{ℕ, zero, suc, ◌+◌, ◌-◌, ◌^◌, ◌≤◌, ◌<◌}
 use native.Mathlib.Omega.{arith}
-use borrow.Author.Tests.{le-leb, leb-true, ne_eqb}
+use borrow.Author.Tests.{le-leb, lt-leb, leb-true, ne_eqb}
 use lib.IntN.{ℤ, pos, negsuc, neg_ℤ, nat_abs}
-use lib.Signed.{◌≤ℤ◌, ◌<ℤ◌}
-use lib.ListN.{length, length-append, length-replicate}
-use Rattle.numbers.proofs.Parts.{ints, pos_part, neg_part}
-use Rattle.numbers.proofs.Tests.{by_test, is_true}
+use lib.Signed.{◌≤ℤ◌, ◌<ℤ◌, lt_z}
+use lib.ListN.{length, set, take, drop, length-append, length-replicate, take-append-drop, drop_of_length-le}
+use Rattle.numbers.proofs.Parts.{ints, pos_part, neg_part, parts_abs, test_lt, test_ge}
+use Rattle.numbers.proofs.Tests.{by_test, is_true, is_false}
 use Rattle.std.specs.declared.option.Option.{Option}
 use Rattle.std.specs.Prelude.{Some, None}
 use Rattle.columns.specs.Decimals.{blanks, digits, decimal, fits_in, pad, same, value_of, has_minus, candidate, field_of}
 use Rattle.columns.specs.code.Parser.{is_digit, all_digits}
 use Rattle.columns.proofs.Compare.{both, same_true, same_equal}
-use mir.Syntax.{w64}
-use mir.Val.{SFits}
-use Rattle.std.specs.Fmt.{signed_decimal}
-use Rattle.columns.proofs.Digits.{digits_printed, digit_range, all_digits_lem, value_digits, digits_below}
+use Rattle.std.specs.Fmt.{decimal as printed}
+use Rattle.std.proofs.lemmas.List.{take-replicate}
+use Rattle.columns.proofs.Digits.{digits_printed, digit_range, all_digits_lem, value_digits, digits_below, digits_above, pow-pos}
 
 -- ---- by sign
 
@@ -52,6 +51,23 @@ pub fits_within : (k : ℕ) (z : ℤ) → 0 < k → pos_part z < 10 ^ suc k → 
 unfolding fits_in decimal
 fits_within k (pos n) p h g = le-leb (length (digits n)) (suc k) (digits_below (suc k) n (omega arith) h)
 fits_within k (negsuc n) p h g = le-leb (suc (length (digits (suc n)))) (suc k) (omega (arith, digits_below k (suc n) p g))
+
+-- and what does not
+fits_past : (k : ℕ) (z : ℤ) → (10 ^ suc k ≤ pos_part z → fits_in (suc k) z ≡ false) × (10 ^ k ≤ neg_part z → fits_in (suc k) z ≡ false)
+unfolding fits_in decimal
+fits_past k (pos n) = (λ h. lt-leb (length (digits n)) (suc k) (digits_above (suc k) n h), λ h. absurd (omega (arith, pow-pos k)))
+fits_past k (negsuc n) = (λ h. absurd (omega (arith, pow-pos (suc k))), λ h. lt-leb (suc (length (digits (suc n)))) (suc k) (omega (arith, digits_above k (suc n) h)))
+
+-- eight columns, by the range
+module _ (k : ℕ) (z : ℤ) (is : k ≡ 8) where
+  pub eight_fit : negsuc 9999998 ≤ℤ z → z ≤ℤ pos 99999999 → true ≡ fits_in k z
+  eight_fit l h = sym (ap (λ (j : ℕ). fits_in j z) is ∙ fits_within 7 z (omega arith) (omega (ints, h, parts_abs z)) (omega (ints, l, parts_abs z)))
+
+  pub eight_low : z <ℤ negsuc 9999998 → false ≡ fits_in k z
+  eight_low h = sym (ap (λ (j : ℕ). fits_in j z) is ∙ (fits_past 7 z).1 (omega (ints, h)))
+
+  pub eight_high : pos 99999999 <ℤ z → false ≡ fits_in k z
+  eight_high h = sym (ap (λ (j : ℕ). fits_in j z) is ∙ (fits_past 7 z).0 (omega (ints, h)))
 
 -- ---- the candidate is the number that was written
 
@@ -136,15 +152,60 @@ pub fits_length : (k : ℕ) (z : ℤ) → fits_in k z ≡ true → length (decim
 unfolding fits_in
 fits_length k z h = leb-true (length (decimal z)) k h
 
--- what `{}` prints of a number of 64 bits
-pub decimal_printed : (z : ℤ) → SFits w64 z → decimal z ≡ signed_decimal z
-unfolding decimal
-decimal_printed (pos n) f = digits_printed n (omega (arith, f.sfits))
-decimal_printed (negsuc n) f = ap (λ (x : List ℕ). 45 ∷ x) (digits_printed (suc n) (omega (arith, f.sfits)))
+minus_set : (m : ℕ) (s : List ℕ) → set (blanks (suc m) ++ s) m 45 ≡ blanks m ++ (45 ∷ s)
+unfolding blanks
+minus_set zero s = refl
+minus_set (suc m) s = ap (λ (x : List ℕ). 32 ∷ x) (minus_set m s)
 
-pub printed_room : (k : ℕ) (z : ℤ) → SFits w64 z → fits_in k z ≡ true → length (signed_decimal z) ≤ k
-printed_room k z f h = omega (arith, fits_length k z h, ap length (decimal_printed z f))
+-- the digits of its magnitude n, written to the end of k blanks from index `first` on
+module _ (k : ℕ) (z : ℤ) (n : ℕ) (is : n ≡ nat_abs z) (fit : n < 2 ^ 64) where
+  same_digits : digits (nat_abs z) ≡ printed n
+  same_digits = ap digits (sym is) ∙ digits_printed n fit
 
-pub printed_pad : (k : ℕ) (z : ℤ) {front number : List ℕ} → SFits w64 z → front ≡ blanks (k - length (signed_decimal z)) → number ≡ signed_decimal z → front ++ number ≡ pad k z
-unfolding pad
-printed_pad k z f b n = (λ i. b i ++ n i) ∙ ap (λ (x : List ℕ). blanks (k - length x) ++ x) (sym (decimal_printed z f))
+  plain_length : pos 0 ≤ℤ z → length (decimal z) ≡ length (printed n)
+  plain_length h = ap length (decimal_plain h ∙ same_digits)
+
+  minus_length : z <ℤ pos 0 → length (decimal z) ≡ suc (length (printed n))
+  minus_length h = ap length (decimal_minus h ∙ ap (λ (x : List ℕ). 45 ∷ x) same_digits)
+
+  pub digits_room : fits_in k z ≡ true → length (printed n) ≤ k
+  digits_room f =
+      by_test (lt_z z (pos 0)) (λ t. length (printed n) ≤ k) (λ t. omega (arith, fits_length k z f, minus_length (test_lt (is_true t))))
+      (λ t. omega (arith, fits_length k z f, plain_length (test_ge (is_false t))))
+
+  module _ (first : ℕ) (room : first + length (printed n) ≡ k) where
+    pub minus_room : z <ℤ pos 0 → fits_in k z ≡ true → 1 ≤ first
+    minus_room h f = omega (arith, room, fits_length k z f, minus_length h)
+
+    module _ (b d : List ℕ) (blank : b ≡ blanks k) (back : drop first d ≡ printed n ++ drop k b) (front : take first d ≡ take first b) where
+      whole : d ≡ blanks first ++ digits (nat_abs z)
+      unfolding blanks
+      whole =
+          sym (take-append-drop first d)
+          ∙ (λ i. (front ∙ ap (take first) blank ∙ take-replicate first k 32 (omega (arith, room))) i ++ back i)
+          ∙ ap (λ (x : List ℕ). blanks first ++ (printed n ++ x)) (drop_of_length-le b {i = k} (omega (arith, ap length blank, length_blanks k)))
+          ∙ ap (λ (x : List ℕ). blanks first ++ x) (append-nil (printed n) ∙ sym same_digits)
+
+      pub whole_length : length d ≡ k
+      whole_length = omega (arith, room, ap length whole, length-append (blanks first) (digits (nat_abs z)), length_blanks first, ap length same_digits)
+
+      pub plain_put : pos 0 ≤ℤ z → d ≡ pad k z
+      unfolding pad
+      plain_put h = whole ∙ (λ i. blanks (start i) ++ sym (decimal_plain h) i)
+        where
+          start : first ≡ k - length (decimal z)
+          start = omega (arith, room, plain_length h)
+
+      -- and a minus before them
+      pub minus_put : z <ℤ pos 0 → fits_in k z ≡ true → set d (first - 1) 45 ≡ pad k z
+      unfolding pad
+      minus_put h f =
+          ap (λ (x : List ℕ). set x (first - 1) 45) (whole ∙ ap (λ (j : ℕ). blanks j ++ digits (nat_abs z)) one)
+          ∙ minus_set (first - 1) (digits (nat_abs z))
+          ∙ (λ i. blanks (start i) ++ sym (decimal_minus h) i)
+        where
+          one : first ≡ suc (first - 1)
+          one = omega (arith, minus_room h f)
+
+          start : first - 1 ≡ k - length (decimal z)
+          start = omega (arith, room, minus_length h)

@@ -9,7 +9,7 @@ use lib.Dec.{leb}
 use lib.IntN.{ℤ, pos, neg_ℤ}
 use lib.Signed.{lt_z}
 use lib.ListN.{length, take, drop, get_or, replicate, length-append, length-drop}
-use lib.Seq.{take_all, drop-append-le}
+use lib.Seq.{take_all, drop-drop, take-append-le, drop-append-le}
 use Rattle.numbers.specs.Numbers.{put_at}
 use Rattle.numbers.proofs.Tests.{by_test, is_false}
 use Rattle.numbers.proofs.Parts.{ints, pos_part, neg_part, parts_abs, test_ge}
@@ -17,7 +17,8 @@ use Rattle.numbers.proofs.Arrays.{put_after, length_put_at, drop_next}
 use borrow.Rule.Slice.PartMut.{put_mid}
 use Rattle.columns.specs.Decimals.{blanks, fits_in, pad}
 use Rattle.columns.specs.Lines.{line_end, line_with, width_of, fields, all_fit, columns_of, line_fits, tag_line, is_wide, title}
-use Rattle.columns.proofs.Lists.{left_next, length_part, put_part}
+use Rattle.std.proofs.lemmas.List.{take-replicate, drop-replicate}
+use Rattle.columns.proofs.Lists.{left_next, length_part, put_part, part_behind}
 use Rattle.columns.proofs.Compare.{both}
 use Rattle.columns.proofs.Fields.{length_blanks, length_pad, fits_within}
 
@@ -108,6 +109,16 @@ module _ (wide : Bool) (zs : List ℤ) (i : ℕ) (h : i < length zs) where
     part : length (take (at + k - at) (drop at d)) ≡ width_at
     part = length_part d at k room ∙ w
 
+    -- where all columns from there on are blank, they are
+    pub part_blank : drop at d ≡ blanks (columns_of wide (length zs - i)) → take (at + k - at) (drop at d) ≡ blanks (length (take (at + k - at) (drop at d)))
+    unfolding blanks
+    part_blank b =
+        ap (take (at + k - at)) b ∙ take-replicate (at + k - at) (columns_of wide (length zs - i)) 32 (omega (arith, columns_turn, w))
+        ∙ ap blanks (width ∙ sym (length_part d at k room))
+      where
+        width : at + k - at ≡ k
+        width = omega arith
+
     pub part_fits : all_fit wide (drop i zs) ≡ true → fits_in (length (take (at + k - at) (drop at d))) (get_or zs i (pos 0)) ≡ true
     part_fits e = ap (λ (n : ℕ). fits_in n (get_or zs i (pos 0))) part ∙ fit_first e
 
@@ -121,10 +132,20 @@ module _ (wide : Bool) (zs : List ℤ) (i : ℕ) (h : i < length zs) where
           let q : s ≡ p = is ∙ ap (λ (n : ℕ). pad n (get_or zs i (pos 0))) part in
           put_part d s at k (ap length q ∙ length_pad width_at (get_or zs i (pos 0)) (fit_first e) ∙ sym w) ∙ ap (put_at d at) q
 
+      length_is : length s ≡ width_at
+      length_is = ap length (is ∙ ap (λ (n : ℕ). pad n (get_or zs i (pos 0))) part) ∙ length_pad width_at (get_or zs i (pos 0)) (fit_first e)
+
       pub length_put : length (put_mid at (at + k - at) d s) ≡ length d
       length_put =
           let n : length p ≡ width_at = length_pad width_at (get_or zs i (pos 0)) (fit_first e) in
           ap length put_is ∙ length_put_at d at p (omega arith)
+
+      -- and the columns after it stay blank
+      pub rest_blank : drop at d ≡ blanks (columns_of wide (length zs - i)) → drop (at + k) (put_mid at (at + k - at) d s) ≡ blanks (columns_of wide (length zs - (i + 1)))
+      unfolding blanks
+      rest_blank b =
+          part_behind d s at k (length_is ∙ sym w) room ∙ ap (drop k) b ∙ drop-replicate k (columns_of wide (length zs - i)) 32
+          ∙ ap blanks (omega (arith, columns_turn, w))
 
       pub put_field : put_at (put_mid at (at + k - at) d s) (at + k) (fields wide (drop (i + 1) zs)) ≡ put_at d at (fields wide (drop i zs))
       put_field =
@@ -140,26 +161,21 @@ pub length_end : (from : ℕ) → from ≤ 83 → length (line_end from) ≡ 84 
 unfolding line_end
 length_end from h = length-append (blanks (83 - from)) (10 ∷ []) ∙ omega (arith, length_blanks (83 - from))
 
-drop_replicate : (m k a : ℕ) → drop m (replicate k a) ≡ replicate (k - m) a
-drop_replicate zero k a = ap (λ (j : ℕ). replicate j a) (e k)
-  where
-    e : (k : ℕ) → k ≡ k - 0
-    e k = omega arith
-drop_replicate (suc m) zero a = ap (λ (j : ℕ). replicate j a) (e m)
-  where
-    e : (m : ℕ) → 0 ≡ 0 - suc m
-    e m = omega arith
-drop_replicate (suc m) (suc k) a = drop_replicate m k a ∙ ap (λ (j : ℕ). replicate j a) (e m k)
-  where
-    e : (m k : ℕ) → k - m ≡ suc k - suc m
-    e m k = omega arith
-
--- a part of a blank line, as the code takes it
-pub end_part : (from : ℕ) → from ≤ 83 → take (84 - from) (drop from (line_end 0)) ≡ line_end from
+-- a blank line behind some columns, also as the code takes it
+pub end_rest : (from : ℕ) → from ≤ 83 → drop from (line_end 0) ≡ line_end from
 unfolding line_end blanks
-end_part from h =
-    let e : drop from (line_end 0) ≡ line_end from = drop-append-le from (replicate 83 32) (10 ∷ []) h ∙ ap (λ (x : List ℕ). x ++ (10 ∷ [])) (drop_replicate from 83 32) in
-    ap (take (84 - from)) e ∙ take_all (84 - from) (line_end from) (omega (arith, length_end from h))
+end_rest from h = drop-append-le from (replicate 83 32) (10 ∷ []) h ∙ ap (λ (x : List ℕ). x ++ (10 ∷ [])) (drop-replicate from 83 32)
+
+pub end_part : (from : ℕ) → from ≤ 83 → take (84 - from) (drop from (line_end 0)) ≡ line_end from
+end_part from h = ap (take (84 - from)) (end_rest from h) ∙ take_all (84 - from) (line_end from) (omega (arith, length_end from h))
+
+-- its columns behind a tag
+pub columns_blank : (letters k : ℕ) → letters + k ≤ 83 → take k (drop letters (line_end 0)) ≡ blanks k
+unfolding line_end blanks
+columns_blank letters k h =
+    ap (take k) (end_rest letters (omega arith))
+    ∙ take-append-le k (blanks (83 - letters)) (10 ∷ []) (omega (arith, length_blanks (83 - letters)))
+    ∙ take-replicate k (83 - letters) 32 (omega arith)
 
 -- ---- lengths
 
@@ -202,18 +218,23 @@ pub fits_room : (letters : ℕ) (zs : List ℤ) (wide : Bool) → letters + colu
 unfolding line_fits
 fits_room letters zs wide h = ap (λ (t : Bool). cond t (all_fit wide zs) false) (le-leb (letters + columns_of wide (length zs)) 83 h)
 
--- the tag, the fields and the end of a line
-pub line_built :
-    (tag : List ℕ) (zs : List ℤ) (wide : Bool) {front columns end : List ℕ}
-    → line_fits (length tag) zs wide ≡ true
-    → front ≡ tag
-    → columns ≡ fields wide zs
-    → end ≡ line_end (length tag + columns_of wide (length zs))
-    → front ++ (columns ++ end) ≡ line_with (tag ++ fields wide zs)
-unfolding line_with
-line_built tag zs wide h f c e =
-    (λ i. f i ++ (c i ++ (e ∙ ap line_end (sym (fits_line tag zs wide h).used)) i))
-    ∙ sym (append_assoc tag (fields wide zs) (line_end (length (tag ++ fields wide zs))))
+-- the tag and the fields over a blank line
+module _ (tag : List ℕ) (zs : List ℤ) (wide : Bool) (h : line_fits (length tag) zs wide ≡ true) {line rest : List ℕ} (all : line ≡ line_end 0) (back : rest ≡ drop (length tag) line) (k : ℕ) (size : k ≡ columns_of wide (length zs)) where
+  blank : rest ≡ drop (length tag) (line_end 0)
+  blank = back ∙ ap (drop (length tag)) all
+
+  pub fields_blank : take k rest ≡ blanks (columns_of wide (length zs))
+  fields_blank = (λ i. take (size i) (blank i)) ∙ columns_blank (length tag) (columns_of wide (length zs)) (fits_line tag zs wide h).room
+
+  pub line_built : {front columns : List ℕ} → front ≡ tag → columns ≡ fields wide zs → front ++ (columns ++ drop k rest) ≡ line_with (tag ++ fields wide zs)
+  unfolding line_with
+  line_built f c =
+      (λ i. f i ++ (c i ++ drop k (blank i)))
+      ∙ ap (λ (x : List ℕ). tag ++ (fields wide zs ++ x)) (drop-drop k (length tag) (line_end 0) ∙ ap (λ (n : ℕ). drop n (line_end 0)) used ∙ end_rest (length (tag ++ fields wide zs)) (omega (arith, used, (fits_line tag zs wide h).room, size)))
+      ∙ sym (append_assoc tag (fields wide zs) (line_end (length (tag ++ fields wide zs))))
+    where
+      used : length tag + k ≡ length (tag ++ fields wide zs)
+      used = omega (arith, size, (fits_line tag zs wide h).used)
 
 module _ (tag : List ℕ) (zs : List ℤ) (wide : Bool) where
   pub line_is : line_fits (length tag) zs wide ≡ true → tag_line tag zs wide ≡ line_with (tag ++ fields wide zs)

@@ -1,10 +1,10 @@
 -- What loops and parts of slices ask of lists: what a loop has left, and `&l[i..]`.
-use mathlib.Core.Path.{◌≡◌, ap, ◌∙◌}
-use mathlib.Core.List.{List, ◌++◌}
+use mathlib.Core.Path.{◌≡◌, sym, ap, ◌∙◌}
+use mathlib.Core.List.{List, ◌++◌, append_assoc}
 use Prim.Native.Nat.{ℕ, suc, ◌+◌, ◌-◌, ◌≤◌, ◌<◌}
 use native.Mathlib.Omega.{arith}
-use lib.ListN.{length, take, drop, length-drop}
-use lib.Seq.{take_all, length-take-le}
+use lib.ListN.{length, take, drop, length-append, length-drop}
+use lib.Seq.{take_all, drop_at, length-take-le}
 use borrow.Rule.Slice.PartMut.{put_mid}
 use Rattle.numbers.specs.Numbers.{put_at}
 use Rattle.numbers.proofs.Arrays.{over_full}
@@ -30,6 +30,15 @@ unfolding put_at
 put_part l s at k e =
     let q : at + k - at ≡ length s = omega arith in
     ap (λ (n : ℕ). take at l ++ (s ++ drop n (drop at l))) q
+
+-- and what lies behind it
+pub part_behind : {A : Type 0} (l s : List A) (at k : ℕ) → length s ≡ k → at + k ≤ length l → drop (at + k) (put_mid at (at + k - at) l s) ≡ drop k (drop at l)
+part_behind l s at k e h =
+    let q : at + k - at ≡ k = omega arith in
+    let n : length (take at l ++ s) ≡ at + k = length-append (take at l) s ∙ omega (arith, length-take-le at l (omega arith), e) in
+    ap (drop (at + k)) (sym (append_assoc (take at l) s (drop (at + k - at) (drop at l))))
+    ∙ drop_at (take at l ++ s) (drop (at + k - at) (drop at l)) (at + k) n
+    ∙ ap (λ (m : ℕ). drop m (drop at l)) q
 
 pub put_whole : {A : Type 0} (l s : List A) → length s ≡ length l → put_at l 0 s ≡ s
 unfolding put_at

@@ -5,7 +5,7 @@ use Rattle.numbers.proofs.Arrays.{put_none}
 use Rattle.columns.proofs.Lists.{part_rest, put_part}
 use Rattle.columns.proofs.Digits.{digits_log, digits_zero}
 use Rattle.columns.proofs.Put.{placed_room, placed_none, placed_empty}
-use Rattle.columns.proofs.Fields.{decimal_minus, decimal_plain, printed_room, printed_pad}
+use Rattle.columns.proofs.Fields.{eight_fit, eight_low, eight_high, decimal_minus, decimal_plain, digits_room, minus_room, plain_put, minus_put}
 use Rattle.columns.proofs.FieldParts.{natural_empty, natural_one, natural_zero, natural_more, field_skip, field_none, field_first_minus, field_first_other}
 use Rattle.columns.proofs.Runs.{all_next, all_low, all_high, value_next, run_bad, run_number, power_next, power_17, power_18, minus_above, minus_none, minus_fits}
 use Rattle.columns.proofs.Lines.{columns_narrow, columns_wide, columns_none, columns_range, columns_turn, width_before, fit_turn, end_part, line_room, line_each, fits_not, fits_room, line_is, line_none, length_line}
@@ -33,9 +33,9 @@ pub ruleset ends_from = (part_rest, end_part)
 
 pub ruleset count_digits = (digits_log, digits_zero)
 
-pub ruleset fits = (decimal_minus, decimal_plain, to_z-of_z)
+pub ruleset fits = (eight_fit, eight_low, eight_high, decimal_minus, decimal_plain, to_z-of_z)
 
-pub ruleset put_number = (printed_room, printed_pad, to_z-of_z)
+pub ruleset put_number = (digits_room, minus_room, plain_put, minus_put, to_z-of_z)
 
 pub ruleset width_of = (width_before)
 

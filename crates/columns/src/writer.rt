@@ -2,11 +2,11 @@
 ghost use Rattle.std.specs.Prelude.{◌≡◌, true, ◌&&◌, ◌++◌, ◌+◌, ◌-◌, ◌<◌, ◌≤◌, leb, length};
 ghost use Rattle.numbers.specs.Numbers.{put_at};
 ghost use Rattle.columns.specs.Buffers.{placed};
-ghost use Rattle.columns.specs.Decimals.{digits, decimal, fits_in, pad};
+ghost use Rattle.columns.specs.Decimals.{blanks, digits, decimal, fits_in, pad};
 ghost use Rattle.columns.specs.Lines.{width_of, fields, all_fit, columns_of, line_fits, line_with, tag_line, is_wide, title};
 
 use super::BLANK_LINE;
-use itoa::Buffer;
+use itoa::write_digits;
 
 // How many digits x has.
 #[tactic(auto, using(crate::proofs::Sets::count_digits))]
@@ -19,27 +19,30 @@ fn count_digits(x: u64) -> usize
     }
 }
 
-// Whether x fits k columns.
+// Whether x fits k columns. Of eight columns, as nearly all fields have, by its range: to count the digits of each number costs more than to write them.
 #[tactic(auto, using(crate::proofs::Sets::fits), unfolding(crate::specs::Decimals::fits_in))]
 pub fn fits(x: i64, k: usize) -> bool
     ensures { result ≡ fits_in k x }
 {
+    if k == 8 {
+        return (-9999999..=99999999).contains(&x);
+    }
     let n = count_digits(x.unsigned_abs());
     if x < 0 { n < k } else { n <= k }
 }
 
-// x right-justified in a field.
+// x right-justified in a field of blanks.
 #[tactic(auto, using(crate::proofs::Sets::put_number))]
 fn put_number(field: &mut [u8], x: i64)
-    requires { fits_in (length field.old) x ≡ true }
+    requires fit { fits_in (length field.old) x ≡ true }
+    requires blank { field.old ≡ blanks (length field.old) }
     ensures { field.new ≡ pad (length field.old) x }
 {
-    let mut buffer = Buffer::new();
-    let text = buffer.format(x).as_bytes();
-    let blanks = field.len() - text.len();
-    let (front, number) = field.split_at_mut(blanks);
-    front.fill(b' ');
-    number.copy_from_slice(text);
+    let end = field.len();
+    let first = write_digits(x.unsigned_abs(), field, end);
+    if x < 0 {
+        field[first - 1] = b'-';
+    }
 }
 
 // The numbers of a line, each in a field of eight columns, the last in one of sixteen where it is wide.
@@ -98,11 +101,11 @@ impl Row<'_> {
         letters <= 83 && self.numbers.len() <= 10 && letters + self.columns() <= 83 && self.fit()
     }
 
-    // The fields, one after the other.
+    // The fields, one after the other, on blanks.
     #[tactic(auto, using(crate::proofs::Sets::put_fields), unfolding(crate::specs::Lines::fields))]
     fn put(&self, columns: &mut [u8])
         requires fit { all_fit self.now.wide self.now.numbers.now ≡ true }
-        requires room { length columns.old ≡ columns_of self.now.wide (length self.now.numbers.now) }
+        requires blank { columns.old ≡ blanks (columns_of self.now.wide (length self.now.numbers.now)) }
         ensures { columns.new ≡ fields self.now.wide self.now.numbers.now }
     {
         let mut next = 0;
@@ -121,16 +124,14 @@ fn write_line(line: &mut [u8], tag: &[u8], row: &Row)
     requires room { length line.old ≡ 84 }
     ensures { line.new ≡ line_with (tag.now ++ fields row.now.wide row.now.numbers.now) }
 {
+    line.copy_from_slice(BLANK_LINE);
     let (front, rest) = line.split_at_mut(tag.len());
-    let (columns, end) = rest.split_at_mut(row.columns());
     front.copy_from_slice(tag);
-    row.put(columns);
-    let blank = BLANK_LINE.as_slice();
-    end.copy_from_slice(&blank[84 - end.len()..]);
+    row.put(&mut rest[..row.columns()]);
 }
 
 // The line of a tag and numbers from index at on, the last field wide or not: whether it was written. Nothing is where they do not fit, or the
-// buffer has no room.
+// buffer has no room. A plain yes or no, with nothing beside it: a caller must be able to know that a line was left out, and ours, whose lines fit, need not ask.
 #[tactic(auto, using(crate::proofs::Sets::put_line))]
 pub fn put_line(buf: &mut [u8], at: usize, tag: &[u8], numbers: &[i64], wide: bool) -> bool
     ensures value { result ≡ line_fits (length tag.now) numbers.now wide && leb (at + 84) (length buf.old) }

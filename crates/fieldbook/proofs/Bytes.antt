@@ -19,7 +19,7 @@ use Rattle.rules.specs.declared.Stage.{Stage}
 use Rattle.rules.specs.declared.Stage.TheVariants.{Fresh, Open, Closed}
 use Rattle.rules.specs.LineState.{is_closed}
 use Rattle.ledger.specs.Plain.{Reading, fresh_reading, section_of, figures_of}
-use Rattle.textbook.specs.Text.{Refusal, most_text, too_long, line_refusals, refusals_from, reading_after}
+use Rattle.textbook.specs.Text.{RefusedLine, most_text, too_long, line_refusals, refusals_from, reading_after}
 use Rattle.fieldbook.specs.Report.{ref_line, closed_numbers, point_numbers, point_line, opn_line, closing_lines, result_lines, report_of, without_heading, report_lines, report}
 use Rattle.fieldbook.specs.Fits.{ReportFits, PrintedFits}
 use Rattle.fieldbook.proofs.Size.{stage_lines, waiting_lines, least, lines_count}
@@ -53,7 +53,7 @@ append_short (x ∷ xs) ys s t = (s.0, append_short xs ys s.1 t)
 
 -- ---- the lines of a report
 
-ref_short : (x : Refusal) → length (ref_line x) ≤ 84
+pub ref_short : (x : RefusedLine) → length (ref_line x) ≤ 84
 ref_short x = tag_short (82 ∷ 69 ∷ 70 ∷ []) (pos x.line ∷ pos x.number ∷ []) false
 
 point_short : (p : Point) → length (point_line p) ≤ 84
@@ -87,10 +87,10 @@ result_few r = go r.stage
     go Open = omega arith
     go Closed = omega (arith, closing_count r)
 
-report_short : (refusals : List Refusal) (r : Reading) → Short (report_of refusals r)
+report_short : (refusals : List RefusedLine) (r : Reading) → Short (report_of refusals r)
 report_short refusals r = (omega (arith, length_title), append_short (map ref_line refusals) (result_lines r) (map_short ref_line ref_short refusals) (result_short r))
 
-report_few : (refusals : List Refusal) (r : Reading) → length (report_of refusals r) ≤ 2 + length refusals + least r
+report_few : (refusals : List RefusedLine) (r : Reading) → length (report_of refusals r) ≤ 2 + length refusals + least r
 report_few refusals r = omega (arith, length-append (map ref_line refusals) (result_lines r), length-map refusals ref_line, result_few r)
 
 -- ---- the lines of a text
@@ -103,7 +103,7 @@ text_lines (suc f) (b ∷ t) = omega (arith, text_lines f (drop 84 (b ∷ t)), l
 
 -- ---- both
 
-bytes : (refusals : List Refusal) (r : Reading) → length refusals + least r ≤ 776 → length (joined (report_of refusals r)) ≤ 65536
+bytes : (refusals : List RefusedLine) (r : Reading) → length refusals + least r ≤ 776 → length (joined (report_of refusals r)) ≤ 65536
 bytes refusals r h = omega (arith, joined_short (report_of refusals r) (report_short refusals r), report_few refusals r)
 
 lines_fit : (ls : List (List ℕ)) → length ls ≤ 777 → length (joined (report_lines ls)) ≤ 65536

@@ -7,13 +7,12 @@ use native.Mathlib.Omega.{arith}
 use borrow.Author.Tests.{lt-ltb, le-ltb, ltb-false}
 use lib.Dec.{eqb, ltb}
 use lib.ListN.{length, length-map}
-use lib.IntN.{pos}
 use Rattle.std.specs.Prelude.{Ok, Err}
 use Rattle.numbers.specs.Numbers.{any_of, put_at}
 use Rattle.numbers.specs.Tables.{Lowest, first_of}
 use Rattle.numbers.proofs.Tests.{by_test, is_false}
 use Rattle.numbers.proofs.Tables.{first_lowest}
-use Rattle.records.specs.declared.Refusal.{Refusal as Refused}
+use Rattle.records.specs.declared.Refusal.{Refusal}
 use Rattle.records.specs.Refusals.{refusal_number}
 use Rattle.records.proofs.Numbered.{not_zero}
 use Rattle.adjust.specs.declared.Point.{Point}
@@ -27,12 +26,10 @@ use Rattle.rules.specs.declared.Stage.{Stage}
 use Rattle.rules.specs.declared.Stage.TheVariants.{Fresh, Open, Closed}
 use Rattle.rules.specs.LineState.{LineState, is_closed}
 use Rattle.rules.specs.declared.call.Call.{Call}
-use Rattle.rules.specs.declared.call.Call.TheVariants.{CloseLine as close_line}
-use Rattle.rules.specs.Rules.{figures_tests}
-use Rattle.book.specs.Calls.{closing_in, closing_of, figures_refusal}
+use Rattle.book.specs.Calls.{closing_in, closing_of, figures_refusal, told_of}
 use Rattle.ledger.specs.Plain as Plain
 use Rattle.ledger.specs.Plain.{Reading, fresh_reading, after, plain_state, section_of, book_of}
-use Rattle.ledger.proofs.Kept.{Kept, fresh_kept, calls_kept, kept_unbroken}
+use Rattle.ledger.proofs.Kept.{Kept, fresh_kept, calls_kept}
 use Rattle.ledger.proofs.Again.{held, figures_number, fresh_holds}
 use Rattle.ledger.proofs.Traced.{points_back}
 use Rattle.ledger.proofs.Entries.{reading_calls, refusals_long}
@@ -40,7 +37,7 @@ use Rattle.textbook.specs.Text.{most_text, too_long, line_entry, entries, line_r
 use Rattle.fieldbook.specs.Report.{ref_line, opn_line, closing_lines, result_lines, report_of, without_heading, report_lines, report, too_small, text_tests, text_refusal, buffer_after, Reduces, printed_for}
 use Rattle.fieldbook.specs.Fits.{closed_fits, point_fits}
 use Rattle.textbook.specs.code.State.{read, unread, text_state}
-use Rattle.fieldbook.specs.code.Printed.{refusal_bytes, told_of, book_lines, state_lines, Printable}
+use Rattle.fieldbook.specs.code.Printed.{book_lines, state_lines, Printable}
 use Rattle.fieldbook.proofs.Bytes.{text_lines}
 use Rattle.fieldbook.proofs.Widths.{figures_fit_lem}
 use Rattle.textbook.proofs.Lines.{refusals_filled}
@@ -164,7 +161,7 @@ module _ (t d : List ℕ) where
   text_lowest = first_lowest (λ n. n) (text_tests t d) 0 refl
 
   -- a refusal is answered, and the buffer is left as it was
-  pub refused : (x : Refused) → text_refusal t d ≡ refusal_number x → Reduces t d (Err x) × (d ≡ buffer_after t d)
+  pub refused : (x : Refusal) → text_refusal t d ≡ refusal_number x → Reduces t d (Err x) × (d ≡ buffer_after t d)
   unfolding buffer_after
   refused x e =
       let some : 0 < text_refusal t d = omega (arith, e, not_zero x) in
@@ -176,7 +173,7 @@ module _ (t d : List ℕ) where
   reported e p q = (record { number = sym e; written = p }, q ∙ sym (ap (λ (n : ℕ). cond (ltb 0 n) d (put_at d 0 (report t))) e))
 
   -- by what is answered of the text when it is read
-  pub unread_text : (x : Refused) → refusal_number x ≡ cond (too_long t) 9 0 → text_refusal t d ≡ refusal_number x
+  pub unread_text : (x : Refusal) → refusal_number x ≡ cond (too_long t) 9 0 → text_refusal t d ≡ refusal_number x
   unfolding text_refusal
   unread_text x e =
       by_test (too_long t) (λ b. refusal_number x ≡ cond b 9 0 → first_of ((9, b) ∷ (10, too_small d) ∷ []) ≡ refusal_number x) (λ b h. sym h)
@@ -202,12 +199,12 @@ module _ (t d : List ℕ) where
   pub prints_report : ◌≡◌ {A = ℕ} 0 (text_refusal t d) → report t ≡ printed_for t
   unfolding text_refusal
   prints_report =
-      by_test (too_long t) (λ b. ◌≡◌ {A = ℕ} 0 (first_of ((9, b) ∷ (10, too_small d) ∷ [])) → report t ≡ cond b (refusal_bytes 0 9) (report t))
+      by_test (too_long t) (λ b. ◌≡◌ {A = ℕ} 0 (first_of ((9, b) ∷ (10, too_small d) ∷ [])) → report t ≡ cond b (ref_line (record { line = 0; number = 9 })) (report t))
       (λ b e. absurd (omega (arith, e))) (λ b e. refl)
 
   -- of one that is refused for its length alone, that refusal
-  pub prints_refusal : (x : Refused) → 65536 ≤ length d → refusal_number x ≡ text_refusal t d → refusal_bytes 0 9 ≡ printed_for t
+  pub prints_refusal : (x : Refusal) → 65536 ≤ length d → refusal_number x ≡ text_refusal t d → ref_line (record { line = 0; number = 9 }) ≡ printed_for t
   unfolding text_refusal
   prints_refusal x h =
-      by_test (too_long t) (λ b. refusal_number x ≡ first_of ((9, b) ∷ (10, too_small d) ∷ []) → refusal_bytes 0 9 ≡ cond b (refusal_bytes 0 9) (report t)) (λ b e. refl)
+      by_test (too_long t) (λ b. refusal_number x ≡ first_of ((9, b) ∷ (10, too_small d) ∷ []) → ref_line (record { line = 0; number = 9 }) ≡ cond b (ref_line (record { line = 0; number = 9 })) (report t)) (λ b e. refl)
       (λ b e. absurd (not_zero x (e ∙ ap (λ (s : Bool). cond s 10 0) (le-ltb (length d) 65536 h))))

@@ -22,7 +22,7 @@ use Rattle.ledger.specs.Plain.{Reading, Awaited, refusal, taken, run_ended, plai
 use Rattle.ledger.specs.Entries.{Entry, asks, refused, entry_refusal, entry_next}
 use Rattle.rules.proofs.Tables.{fails}
 use Rattle.ledger.proofs.Follows.{recast}
-use Rattle.textbook.specs.Text.{Refusal, line_entry, line_refusals, refusals_from, reading_after}
+use Rattle.textbook.specs.Text.{RefusedLine, line_entry, line_refusals, refusals_from, reading_after}
 
 -- ---- so many lines at least a reading has taken
 
@@ -75,14 +75,14 @@ taken_least r (close_spur number) e =
 -- ---- a line is refused, or adds one at most
 
 -- the refusal of line k, where there is one
-abbrev refusal_of : ℕ → ℕ → List Refusal
+abbrev refusal_of : ℕ → ℕ → List RefusedLine
 refusal_of k n = cond (eqb n 0) [] (record { line = k; number = n } ∷ [])
 
 entry_counts : (k : ℕ) (r : Reading) (e : Entry) → length (refusal_of k (entry_refusal r e)) + least (entry_next r e) ≤ 1 + least r
 entry_counts k r (asks c) =
-    by_test (eqb (refusal r c) 0) (λ b. length {A = Refusal} (cond b [] (record { line = k; number = refusal r c } ∷ [])) + least (cond b (taken r c) r) ≤ 1 + least r)
+    by_test (eqb (refusal r c) 0) (λ b. length {A = RefusedLine} (cond b [] (record { line = k; number = refusal r c } ∷ [])) + least (cond b (taken r c) r) ≤ 1 + least r)
     (λ b. omega (arith, taken_least r c (eqb→eq (refusal r c) 0 b))) (λ b. omega arith)
-entry_counts k r (refused n) = by_test (eqb n 0) (λ b. length {A = Refusal} (cond b [] (record { line = k; number = n } ∷ [])) + least r ≤ 1 + least r) (λ b. omega arith) (λ b. omega arith)
+entry_counts k r (refused n) = by_test (eqb n 0) (λ b. length {A = RefusedLine} (cond b [] (record { line = k; number = n } ∷ [])) + least r ≤ 1 + least r) (λ b. omega arith) (λ b. omega arith)
 
 pub lines_count : (k : ℕ) (r : Reading) (ls : List (List ℕ)) → length (refusals_from k (line_refusals r ls)) + least (reading_after r ls) ≤ length ls + least r
 unfolding refusals_from

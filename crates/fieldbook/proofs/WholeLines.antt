@@ -17,7 +17,7 @@ use Rattle.std.specs.Prelude.{Ok, Err}
 use Rattle.std.specs.declared.result.Result.{Result}
 use Rattle.numbers.specs.Tables.{first_of}
 use Rattle.records.specs.declared.Record.{Record}
-use Rattle.records.specs.declared.Refusal.{Refusal as Refused}
+use Rattle.records.specs.declared.Refusal.{Refusal}
 use Rattle.records.specs.Refusals.{number_of}
 use Rattle.columns.specs.Decimals.{same}
 use Rattle.columns.specs.Lines.{heading, title}
@@ -31,7 +31,7 @@ use Rattle.rules.proofs.Tables.{tests, tables}
 use Rattle.rules.specs.Records.{call_of}
 use Rattle.ledger.specs.Entries.{entry_of, entry_refusal, entry_next}
 use Rattle.ledger.specs.Plain.{Reading, fresh_reading, after, refusal, plain_state, section_of, figures_of}
-use Rattle.textbook.specs.Text.{Refusal, line_entry, entries, line_refusals, reading_after, calls_of, refusals_from}
+use Rattle.textbook.specs.Text.{RefusedLine, line_entry, entries, line_refusals, reading_after, calls_of, refusals_from}
 use Rattle.fieldbook.specs.Report.{ref_line, closed_numbers, closed_line, point_line, opn_line, closing_lines, result_lines, report_of, without_heading, report_lines}
 use Rattle.fieldbook.specs.Fits.{point_fits, ReportWhole}
 use Rattle.ledger.proofs.Entries.{reading_calls}
@@ -48,7 +48,7 @@ refusal_small r l = go (line_in l) refl
     shapeless : number_of (line_in l) ≤ 99
     shapeless = omega (arith, (parses l refl).1.0, leb-true (first_of (shape_tests l)) 99 (first_each (λ n. leb n 99) (shape_tests l) refl refl))
 
-    go : (x : Result Record Refused) → line_in l ≡ x → entry_refusal r (entry_of x) ≤ 99
+    go : (x : Result Record Refusal) → line_in l ≡ x → entry_refusal r (entry_of x) ≤ 99
     go (Ok x) e = let c : Call = call_of x.tag x.values in leb-true (refusal r c) 99 (first_each (λ n. leb n 99) (tests (plain_state r) c) (tables (plain_state r) c).two_digits refl)
     go (Err x) e = omega (arith, shapeless, ap number_of e)
 
@@ -75,7 +75,7 @@ refusals_whole k r [] h = refl
 refusals_whole k r (l ∷ ls) h =
     let n = entry_refusal r (line_entry l) in
     let s = entry_next r (line_entry l) in
-    let here : List Refusal = cond (eqb n 0) [] (record { line = k; number = n } ∷ []) in
+    let here : List RefusedLine = cond (eqb n 0) [] (record { line = k; number = n } ∷ []) in
     let later = refusals_from (suc k) (line_refusals s ls) in
     subst AllWhole (sym (map-append ref_line here later))
     (all_append whole (map ref_line here) (map ref_line later) (refusal_whole k n (omega arith) (refusal_small r l)) (refusals_whole (suc k) s ls (omega arith)))
@@ -103,7 +103,7 @@ result_whole calls =
     n : ℕ
     n = length r.sections
 
-report_of_lem : (refusals : List Refusal) (r : Reading) → AllWhole (map ref_line refusals) → AllWhole (result_lines r) → AllWhole (report_of refusals r)
+report_of_lem : (refusals : List RefusedLine) (r : Reading) → AllWhole (map ref_line refusals) → AllWhole (result_lines r) → AllWhole (report_of refusals r)
 report_of_lem refusals r f g =
     all_cons whole title (map ref_line refusals ++ result_lines r) (is_whole title length_title) (all_append whole (map ref_line refusals) (result_lines r) f g)
 

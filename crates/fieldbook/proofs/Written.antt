@@ -2,7 +2,7 @@
 use mathlib.Core.Path.{◌≡◌, refl, sym, ap, subst, ◌∙◌}
 use mathlib.Core.Bool.{Bool, true, false, cond}
 use mathlib.Core.List.{List, [], ◌∷◌, ◌++◌, map, append-nil}
-use Prim.Native.Nat.{ℕ, suc, ◌+◌, ◌-◌, ◌*◌, ◌≤◌, ◌<◌}
+use Prim.Native.Nat.{ℕ, ◌+◌, ◌-◌, ◌*◌, ◌≤◌, ◌<◌}
 use native.Mathlib.Numerals.{add-one}
 use native.Mathlib.Omega.{arith}
 use borrow.Author.Tests.{ne_eqb}
@@ -12,10 +12,9 @@ use lib.ListN.{length, get_or, take, drop, length-append, length-take, length-dr
 use borrow.Rule.Slice.PartMut.{put_mid}
 use Rattle.std.specs.Prelude.{Err}
 use Rattle.numbers.specs.Numbers.{over, put_at}
-use Rattle.numbers.proofs.Tests.{by_test}
 use Rattle.numbers.proofs.All.{all_head, all_tail}
-use Rattle.numbers.proofs.Arrays.{length_put_at, put_after, put_all, put_none, drop_next}
-use Rattle.records.specs.declared.Refusal.{Refusal as Refused}
+use Rattle.numbers.proofs.Arrays.{length_put_at, put_after, put_all, drop_next}
+use Rattle.records.specs.declared.Refusal.{Refusal}
 use Rattle.records.proofs.Numbered.{not_zero}
 use Rattle.adjust.specs.declared.Point.{Point}
 use Rattle.adjust.specs.declared.LineFigures.{LineFigures}
@@ -28,13 +27,12 @@ use Rattle.columns.proofs.Put.{placed_room}
 use Rattle.columns.proofs.Lines.{length_line, length_title}
 use Rattle.columns.proofs.Texts.{joined_append}
 use Rattle.rules.specs.declared.Book.{Book}
-use Rattle.book.specs.Calls.{closing_in, figures_refusal, Tells}
+use Rattle.book.specs.Calls.{closing_in, figures_refusal, Tells, told_of}
 use Rattle.textbook.specs.declared.text.State.{State}
-use Rattle.textbook.specs.Text.{Refusal, refusals_from}
+use Rattle.textbook.specs.Text.{refusals_from}
 use Rattle.fieldbook.specs.Report.{ref_line, closed_numbers, closed_line, point_numbers, point_line, opn_line}
 use Rattle.fieldbook.specs.Fits.{point_fits}
-use Rattle.fieldbook.specs.code.Printed.{refusal_bytes, refusal_lines, figures_lines, told_of, book_lines, below_title, state_lines, points_fit, ClosingFits}
-use Rattle.fieldbook.proofs.Bytes.{tag_short}
+use Rattle.fieldbook.specs.code.Printed.{Puts, refusal_lines, figures_lines, book_lines, below_title, state_lines, points_fit, ClosingFits}
 use Rattle.fieldbook.proofs.Widths.{small_fits}
 
 -- ---- a line
@@ -45,15 +43,6 @@ line_put d tag zs wide e h = placed_room d 0 (tag_line tag zs wide) (omega (arit
 
 pub line_long : (tag : List ℕ) (zs : List ℤ) (wide : Bool) → line_fits (length tag) zs wide ≡ true → 84 ≡ length (tag_line tag zs wide)
 line_long tag zs wide e = sym (length_line tag zs wide e)
-
--- nothing is written
-pub none_put : (d : List ℕ) (at : ℕ) → d ≡ put_at d at []
-none_put d at = sym (put_none d at)
-
-pub refusal_short : (k n : ℕ) → length (refusal_bytes k n) ≤ 84
-refusal_short k n =
-    by_test (eqb n 0) (λ b. length (cond b [] (ref_line (record { line = k; number = n }))) ≤ 84) (λ b. omega arith)
-    (λ b. tag_short (82 ∷ 69 ∷ 70 ∷ []) (pos k ∷ pos n ∷ []) false)
 
 pub refusal_fits : (k n : ℕ) → k ≤ 777 → n ≤ 255 → line_fits 3 (pos k ∷ pos n ∷ []) false ≡ true
 unfolding line_fits columns_of all_fit width_of
@@ -104,8 +93,12 @@ module _ {whole d₀ rest d : List ℕ} {at : ℕ} (l : Left whole d₀ rest d a
         put = (λ i. put_at (p i) (q i) more) ∙ put_after d at piece more (omega arith) ∙ ap (put_at d at) (sym e) ∙ l.put;
       }
 
-  pub left_none : rest ≡ [] → (at ≡ length whole) × (d ≡ put_at d₀ 0 whole)
-  left_none e = (omega (arith, l.ends, ap length e), put_all d at e l.put)
+  -- and after none
+  pub left_same : {more : List ℕ} → rest ≡ more → {d₁ : List ℕ} {next : ℕ} → d₁ ≡ d → next ≡ at → Left whole d₀ more d₁ next
+  left_same e p q = record { ends = omega (arith, l.ends, ap length e, q); same = ap length p ∙ l.same; put = (λ i. put_at (p i) (q i) (sym e i)) ∙ l.put }
+
+  pub left_none : rest ≡ [] → Puts whole d₀ d at
+  left_none e = record { value = omega (arith, l.ends, ap length e); buf_after = put_all d at e l.put }
 
 -- ---- refusals
 
@@ -114,22 +107,20 @@ module _ (ns : List ℕ) where
   abbrev pub refusals_left : ℕ → List ℕ
   refusals_left k = joined (refusal_lines k (drop k ns))
 
-  pub refusals_turn : (k : ℕ) → k < length ns → refusals_left k ≡ refusal_bytes k (get_or ns k 0) ++ refusals_left (k + 1)
-  unfolding refusals_from joined
-  refusals_turn k h =
-      ap (λ (xs : List ℕ). joined (refusal_lines k xs)) (drop_next ns k 0 h)
-      ∙ go (eqb (get_or ns k 0) 0)
-      ∙ ap (λ (j : ℕ). refusal_bytes k (get_or ns k 0) ++ joined (refusal_lines j (drop (k + 1) ns))) (sym (add-one k))
-    where
-      x : Refusal
-      x = record { line = k; number = get_or ns k 0 }
+  module _ (k : ℕ) (h : k < length ns) where
+    refusals_turn : refusals_left k ≡ joined (map ref_line (cond (eqb (get_or ns k 0) 0) [] (record { line = k; number = get_or ns k 0 } ∷ []) ++ refusals_from (k + 1) (drop (k + 1) ns)))
+    unfolding refusals_from
+    refusals_turn =
+        ap (λ (xs : List ℕ). joined (refusal_lines k xs)) (drop_next ns k 0 h)
+        ∙ ap (λ (j : ℕ). joined (map ref_line (cond (eqb (get_or ns k 0) 0) [] (record { line = k; number = get_or ns k 0 } ∷ []) ++ refusals_from j (drop (k + 1) ns)))) (sym (add-one k))
 
-      later : List Refusal
-      later = refusals_from (suc k) (drop (k + 1) ns)
+    -- with line k's, and where it has none
+    pub refused_turn : (get_or ns k 0 ≡ 0 → ⊥) → refusals_left k ≡ ref_line (record { line = k; number = get_or ns k 0 }) ++ refusals_left (k + 1)
+    unfolding joined
+    refused_turn e = refusals_turn ∙ ap (λ (b : Bool). joined (map ref_line (cond b [] (record { line = k; number = get_or ns k 0 } ∷ []) ++ refusals_from (k + 1) (drop (k + 1) ns)))) (ne_eqb (get_or ns k 0) 0 e)
 
-      go : (b : Bool) → joined (map ref_line (cond b [] (x ∷ []) ++ later)) ≡ cond b [] (ref_line x) ++ joined (map ref_line later)
-      go true = refl
-      go false = refl
+    pub taken_turn : get_or ns k 0 ≡ 0 → refusals_left k ≡ refusals_left (k + 1)
+    taken_turn e = refusals_turn ∙ ap (λ (n : ℕ). joined (map ref_line (cond (eqb n 0) [] (record { line = k; number = n } ∷ []) ++ refusals_from (k + 1) (drop (k + 1) ns)))) e
 
   pub no_refusal_left : (k : ℕ) → length ns ≤ k → refusals_left k ≡ []
   unfolding refusals_from joined
@@ -187,7 +178,7 @@ module _ (f : LineFigures) where
   given_long fits = points_long (closing_in f).points fits.points
 
 -- where the line is not closed
-pub book_open : (b : Book) (e : Refused) → Tells b (Err e) → joined (book_lines b) ≡ opn_line b.sections.count
+pub book_open : (b : Book) (e : Refusal) → Tells b (Err e) → joined (book_lines b) ≡ opn_line b.sections.count
 unfolding joined
 book_open b e told =
     ap (λ (t : Bool). joined (cond t (figures_lines (told_of b)) (opn_line b.sections.count ∷ []))) (ne_eqb (figures_refusal b) 0 (λ z. not_zero e (told.number ∙ z)))
@@ -215,8 +206,6 @@ title_put d h = placed_room d 0 title (omega (arith, length_title))
 -- ---- what the tactics of each function cite
 
 pub ruleset put_whole = (line_put, line_long)
-
-pub ruleset put_refusal = (refusal_fits, none_put)
 
 pub ruleset put_closing = (put_both, closing_bytes, closing_long, closed_long, given_long, length-take, length-drop)
 

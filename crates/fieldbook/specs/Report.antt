@@ -5,7 +5,7 @@ use Rattle.std.specs.declared.option.Option.{Option}
 use Rattle.std.specs.declared.result.Result.{Result}
 use Rattle.numbers.specs.Numbers.{put_at}
 use Rattle.numbers.specs.Tables.{first_of}
-use Rattle.records.specs.declared.Refusal as Records
+use Rattle.records.specs.declared.Refusal.{Refusal}
 use Rattle.records.specs.Refusals.{number_of}
 use Rattle.adjust.specs.declared.Point.{Point}
 use Rattle.adjust.specs.declared.Summary.{Summary}
@@ -15,12 +15,12 @@ use Rattle.columns.specs.Lines.{tag_line, is_wide, heading, title}
 use Rattle.columns.specs.Texts.{lines, joined}
 use Rattle.rules.specs.LineState.{is_closed}
 use Rattle.ledger.specs.Plain.{Reading, fresh_reading, figures_of}
-use Rattle.textbook.specs.Text.{Refusal, too_long, line_refusals, refusals_from, reading_after}
+use Rattle.textbook.specs.Text.{RefusedLine, too_long, line_refusals, refusals_from, reading_after}
 
 -- ---- its lines
 
 -- "REF", line and number
-abbrev pub ref_line : Refusal → List ℕ
+abbrev pub ref_line : RefusedLine → List ℕ
 ref_line x = tag_line (82 ∷ 69 ∷ 70 ∷ []) (pos x.line ∷ pos x.number ∷ []) false
 
 -- T as it is printed: one that has more than eight digits as 99,999,999 (document 02, W-202)
@@ -56,7 +56,7 @@ result_lines r = cond (is_closed r.stage) (closing_lines (figures_of r)) (opn_li
 
 -- ---- the report
 
-abbrev pub report_of : List Refusal → Reading → List (List ℕ)
+abbrev pub report_of : List RefusedLine → Reading → List (List ℕ)
 report_of refusals r = title ∷ (map ref_line refusals ++ result_lines r)
 
 -- where line 1 is not the heading, its refusal is the only one and reading stops
@@ -91,7 +91,7 @@ abbrev pub length_after : List ℕ → List ℕ → ℕ → ℕ
 length_after text buffer old = cond (eqb (text_refusal text buffer) 0) (length (report text)) old
 
 -- r has document 01's number, and where that is none the report's length
-pub record Reduces (text buffer : List ℕ) (r : Result ℕ Records.Refusal) : Type 0 where
+pub record Reduces (text buffer : List ℕ) (r : Result ℕ Refusal) : Type 0 where
   pub number : number_of r ≡ text_refusal text buffer
   pub written : IfOk r (λ n. n ≡ length (report text))
 

@@ -7,6 +7,7 @@ ghost use Rattle.numbers.specs.Numbers.{put_at};
 
 use records::Refusal;
 use textbook::reader::read_text;
+use textbook::text::fresh;
 
 mod printing;
 
@@ -15,7 +16,8 @@ pub fn reduce_text(text: &[u8], report: &mut [u8]) -> Result<usize, Refusal>
     ensures reduces { Reduces text.now report.old result }
     ensures report_after { report.new ≡ buffer_after text.now report.old }
 {
-    let state = read_text(text)?;
+    let mut state = fresh();
+    read_text(text, &mut state)?;
     if report.len() < 65536 {
         return Err(Refusal::ReportRoom);
     }

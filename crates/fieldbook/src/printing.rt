@@ -1,11 +1,10 @@
 // The report, written into a lent buffer: each piece at its beginning, and the next into the rest.
 ghost use Rattle.std.specs.Prelude.{◌≡◌, true, map, ◌+◌, ◌*◌, ◌≤◌, length};
-ghost use Rattle.numbers.specs.Numbers.{put_at};
 ghost use Rattle.columns.specs.Lines.{line_fits, tag_line};
 ghost use Rattle.columns.specs.Texts.{joined};
-ghost use Rattle.fieldbook.specs.Report.{shown_t, closed_line, point_line, opn_line};
+ghost use Rattle.fieldbook.specs.Report.{ref_line, shown_t, closed_line, point_line, opn_line};
 ghost use Rattle.fieldbook.specs.Fits.{closed_fits, point_fits};
-ghost use Rattle.fieldbook.specs.code.Printed.{refusal_bytes, refusal_lines, figures_lines, book_lines, below_title, state_lines, points_fit, ClosingFits, Printable};
+ghost use Rattle.fieldbook.specs.code.Printed.{Puts, refusal_lines, figures_lines, book_lines, below_title, state_lines, points_fit, ClosingFits, Printable};
 
 use adjust::{LineFigures, Point, Summary};
 use book::calls::figures_of;
@@ -18,35 +17,31 @@ use textbook::text::State;
 fn put_whole(buf: &mut [u8], tag: &[u8], numbers: &[i64], wide: bool) -> usize
     requires fit { line_fits (length tag.now) numbers.now wide ≡ true }
     requires room { 84 ≤ length buf.old }
-    ensures value { result ≡ length (tag_line tag.now numbers.now wide) }
-    ensures buf_after { buf.new ≡ put_at buf.old 0 (tag_line tag.now numbers.now wide) }
+    ensures { Puts (tag_line tag.now numbers.now wide) buf.old buf.new result }
 {
     put_line(buf, 0, tag, numbers, wide);
     84
 }
 
-// The refusal of a line, where there is one: its length.
-#[tactic(auto, using(crate::proofs::Written::put_refusal))]
+// The refusal of a line: its length.
+#[tactic(auto, using(crate::proofs::Written::refusal_fits))]
 pub(crate) fn put_refusal(buf: &mut [u8], line: usize, number: u8) -> usize
     requires { (84 ≤ length buf.old) × (line ≤ 777) }
-    ensures value { result ≡ length (refusal_bytes line number) }
-    ensures buf_after { buf.new ≡ put_at buf.old 0 (refusal_bytes line number) }
+    ensures { Puts (ref_line (record { line = line; number = number })) buf.old buf.new result }
 {
-    if number == 0 {
-        return 0;
-    }
     put_whole(buf, b"REF", &[line as i64, number as i64], false)
 }
 
-// The refusals, each number in its line's place: their length.
+// The refusals among the numbers, each in its line's place: their length.
 fn put_refusals(buf: &mut [u8], numbers: &[u8; 778]) -> usize
     requires { 65352 ≤ length buf.old }
-    ensures value { result ≡ length (joined (refusal_lines 0 numbers.now)) }
-    ensures buf_after { buf.new ≡ put_at buf.old 0 (joined (refusal_lines 0 numbers.now)) }
+    ensures { Puts (joined (refusal_lines 0 numbers.now)) buf.old buf.new result }
 {
     let mut at = 0;
     for (line, number) in numbers.iter().enumerate() {
-        at += put_refusal(&mut buf[at..], line, *number);
+        if *number != 0 {
+            at += put_refusal(&mut buf[at..], line, *number);
+        }
     }
     at
 }
@@ -54,8 +49,7 @@ fn put_refusals(buf: &mut [u8], numbers: &[u8; 778]) -> usize
 #[tactic(auto, using(crate::proofs::Written::open_fits))]
 fn put_open(buf: &mut [u8], sections: usize) -> usize
     requires { (84 ≤ length buf.old) × (sections ≤ 64) }
-    ensures value { result ≡ length (opn_line sections) }
-    ensures buf_after { buf.new ≡ put_at buf.old 0 (opn_line sections) }
+    ensures { Puts (opn_line sections) buf.old buf.new result }
 {
     put_whole(buf, b"OPN", &[sections as i64], false)
 }
@@ -69,8 +63,7 @@ fn shown_t(t: i64) -> i64
 
 fn put_closed(buf: &mut [u8], s: &Summary) -> usize
     requires { (84 ≤ length buf.old) × ((s.now.count ≤ 64) × (closed_fits s.now ≡ true)) }
-    ensures value { result ≡ length (closed_line s.now) }
-    ensures buf_after { buf.new ≡ put_at buf.old 0 (closed_line s.now) }
+    ensures { Puts (closed_line s.now) buf.old buf.new result }
 {
     let count = s.count as i64;
     let verdict = s.verdict.number() as i64;
@@ -80,8 +73,7 @@ fn put_closed(buf: &mut [u8], s: &Summary) -> usize
 
 fn put_point(buf: &mut [u8], p: &Point) -> usize
     requires { (84 ≤ length buf.old) × (point_fits p.now ≡ true) }
-    ensures value { result ≡ length (point_line p.now) }
-    ensures buf_after { buf.new ≡ put_at buf.old 0 (point_line p.now) }
+    ensures { Puts (point_line p.now) buf.old buf.new result }
 {
     let numbers = [p.number, p.distance, p.correction, p.height];
     put_whole(buf, b"PNT", &numbers, is_wide(p.height))
@@ -90,8 +82,7 @@ fn put_point(buf: &mut [u8], p: &Point) -> usize
 // The points: their length.
 fn put_points(buf: &mut [u8], points: &[Point]) -> usize
     requires { (84 * length points.now ≤ length buf.old) × points_fit points.now }
-    ensures value { result ≡ length (joined (map point_line points.now)) }
-    ensures buf_after { buf.new ≡ put_at buf.old 0 (joined (map point_line points.now)) }
+    ensures { Puts (joined (map point_line points.now)) buf.old buf.new result }
 {
     let mut at = 0;
     for point in points {
@@ -104,8 +95,7 @@ fn put_points(buf: &mut [u8], points: &[Point]) -> usize
 #[tactic(auto, using(crate::proofs::Written::put_closing))]
 fn put_closing(buf: &mut [u8], figures: &LineFigures) -> usize
     requires { ClosingFits figures.now × (length (joined (figures_lines figures.now)) ≤ length buf.old) }
-    ensures value { result ≡ length (joined (figures_lines figures.now)) }
-    ensures buf_after { buf.new ≡ put_at buf.old 0 (joined (figures_lines figures.now)) }
+    ensures { Puts (joined (figures_lines figures.now)) buf.old buf.new result }
 {
     let n = figures.summary.count + 1;
     let at = put_closed(buf, &figures.summary);
@@ -115,8 +105,7 @@ fn put_closing(buf: &mut [u8], figures: &LineFigures) -> usize
 // What the report says of the book's line, CLO and PNT or OPN: its length.
 fn put_book(buf: &mut [u8], b: &Book) -> usize
     requires { Printable b.now × (length (joined (book_lines b.now)) ≤ length buf.old) }
-    ensures value { result ≡ length (joined (book_lines b.now)) }
-    ensures buf_after { buf.new ≡ put_at buf.old 0 (joined (book_lines b.now)) }
+    ensures { Puts (joined (book_lines b.now)) buf.old buf.new result }
 {
     match figures_of(*b) {
         Ok(figures) => put_closing(buf, &figures),
@@ -128,8 +117,7 @@ fn put_book(buf: &mut [u8], b: &Book) -> usize
 #[tactic(auto, using(crate::proofs::Written::put_below))]
 fn put_below(buf: &mut [u8], s: &State) -> usize
     requires { (65352 ≤ length buf.old) × (Printable s.now.book × (length (joined (below_title s.now)) ≤ length buf.old)) }
-    ensures value { result ≡ length (joined (below_title s.now)) }
-    ensures buf_after { buf.new ≡ put_at buf.old 0 (joined (below_title s.now)) }
+    ensures { Puts (joined (below_title s.now)) buf.old buf.new result }
 {
     let at = put_refusals(buf, &s.refusals);
     at + put_book(&mut buf[at..], &s.book)
@@ -139,8 +127,7 @@ fn put_below(buf: &mut [u8], s: &State) -> usize
 #[tactic(auto, using(crate::proofs::Written::put_state))]
 pub(crate) fn put_state(buf: &mut [u8], s: &State) -> usize
     requires { (65536 ≤ length buf.old) × (Printable s.now.book × (length (joined (state_lines s.now)) ≤ length buf.old)) }
-    ensures value { result ≡ length (joined (state_lines s.now)) }
-    ensures buf_after { buf.new ≡ put_at buf.old 0 (joined (state_lines s.now)) }
+    ensures { Puts (joined (state_lines s.now)) buf.old buf.new result }
 {
     put_title(buf, 0);
     84 + put_below(&mut buf[84..], s)

@@ -1,11 +1,12 @@
--- A list in an array: one list after another is one list, a store is a list of one, and what a loop has left to write.
+-- A list in an array: one list after another is one list, a store is a list of one, what a loop has left to write, and a chunk that comes off the front.
 use mathlib.Core.Path.{◌≡◌, refl, sym, ap, ◌∙◌}
 use mathlib.Core.List.{List, [], ◌∷◌, ◌++◌, append_assoc, append-nil}
-use Prim.Native.Nat.{ℕ, ◌+◌, ◌-◌, ◌≤◌, ◌<◌}
+use Prim.Native.Nat.{ℕ, ◌+◌, ◌-◌, ◌≤◌, ◌<◌, min}
 use native.Mathlib.Numerals.{add-one}
 use native.Mathlib.Omega.{arith}
 use lib.ListN.{length, get_or, set, take, drop, length-append, length-take, length-drop, take-append-drop, drop_of_length-le}
 use lib.Seq.{length-take-le, take_all, take_at, drop_at, drop-append-add, take-suc, drop-cons, drop-drop, set_split}
+use Rattle.std.proofs.lemmas.List.{take_min, drop_min}
 use Rattle.numbers.specs.Numbers.{over, put_at, written}
 
 module _ {A : Type 0} where
@@ -94,3 +95,12 @@ module _ {A : Type 0} where
       let l : length (take k xs) ≡ k = length-take-le k xs (omega arith) in
       ap (λ (n : ℕ). set (written (take k xs) ys) n (get_or xs k z)) (sym l) ∙ written_set (take k xs) ys (get_or xs k z) (omega arith)
       ∙ rw (add-one k, take-suc xs k z h)
+
+  -- ---- a chunk that comes off the front
+
+  -- the first n elements of a list, or all where it is shorter, and the others
+  pub chunk_parts : (n : ℕ) (all chunk rest : List A) → all ≡ chunk ++ rest → length chunk ≡ min n (length all) → (take n all ≡ chunk) × (drop n all ≡ rest)
+  chunk_parts n all chunk rest parts size = (
+    sym (take_min n all) ∙ (λ i. take (sym size i) (parts i)) ∙ take_at chunk rest (length chunk) refl,
+    sym (drop_min n all) ∙ (λ i. drop (sym size i) (parts i)) ∙ drop_at chunk rest (length chunk) refl,
+  )

@@ -1,19 +1,19 @@
 -- Laws of entries in lists of numbers, of numbers that are stored one by one, and of the figures of a book.
 use mathlib.Core.Path.{◌≡◌, refl, sym, ap, subst, ◌∙◌}
 use mathlib.Core.Bool.{not, cond}
-use mathlib.Core.List.{List, [], ◌∷◌, ◌++◌, append-nil}
+use mathlib.Core.List.{List, [], ◌∷◌, ◌++◌}
 use Prim.Native.Nat.{ℕ, zero, suc, ◌+◌, ◌/◌, ◌%◌, ◌≤◌, ◌<◌, min}
 use native.Mathlib.Omega.{arith}
 use borrow.Author.Tests.{le-leb}
 use lib.Dec.{eqb, leb}
-use lib.ListN.{length, set, take, drop, length-append, length-take, drop_of_length-le}
-use lib.Seq.{take_all, take_at, drop_at, sets}
+use lib.ListN.{length, set, take, drop, length-append, length-take}
+use lib.Seq.{take_all, sets}
 use lib.IntN.{ℤ}
 use Rattle.std.proofs.Common.{inl, inr, Err}
 use Rattle.std.proofs.lemmas.Bool.{cases_lt}
 use Rattle.std.proofs.lemmas.List.{nil_from_length}
 use Rattle.numbers.specs.Numbers.{written}
-use Rattle.numbers.proofs.Arrays.{written_none}
+use Rattle.numbers.proofs.Arrays.{chunk_parts, written_none}
 use Rattle.records.specs.declared.Refusal.TheVariants.{NotARecord}
 use Rattle.adjust.specs.Sections.{holding}
 use Rattle.adjust.specs.Frames.{adjusted_of}
@@ -39,19 +39,6 @@ entries_long (suc n) xs = ap suc (entries_long n (drop 11 xs))
 -- as `div_ceil` counts them
 pub count_long : (xs : List ℤ) → length xs / 11 + min 1 (length xs % 11) ≡ length (entries_of xs)
 count_long xs = let whole : length xs / 11 + min 1 (length xs % 11) ≡ (length xs + 10) / 11 = omega arith in whole ∙ sym (entries_long ((length xs + 10) / 11) xs)
-
--- the first n elements of a list, or all where it is shorter, and the others
-chunk_parts : {A : Type 0} (n : ℕ) (all chunk rest : List A) → all ≡ chunk ++ rest → length chunk ≡ min n (length all) → (take n all ≡ chunk) × (drop n all ≡ rest)
-chunk_parts {A} n all chunk rest parts size =
-    let sum = ap length parts ∙ length-append chunk rest in
-    elim (cases_lt (length all) n) [
-      | inl short ↦
-          let none : rest ≡ [] = nil_from_length rest (omega arith) in
-          (take_all n all (omega arith) ∙ parts ∙ ap (λ (r : List A). chunk ++ r) none ∙ append-nil chunk, drop_of_length-le all (omega arith) ∙ sym none)
-      | inr long ↦
-          let whole : length chunk ≡ n = omega arith in
-          (ap (take n) parts ∙ take_at chunk rest n whole, ap (drop n) parts ∙ drop_at chunk rest n whole)
-    ]
 
 -- an entry is read from eleven numbers
 leb_take : (n : ℕ) (xs : List ℤ) → leb n (length (take n xs)) ≡ leb n (length xs)

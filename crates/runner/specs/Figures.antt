@@ -6,11 +6,10 @@ use Rattle.adjust.specs.declared.Summary.{Summary}
 use Rattle.adjust.specs.declared.Verdict.TheVariants.{NotGiven}
 use Rattle.adjust.specs.declared.LineFigures.{LineFigures}
 use Rattle.adjust.specs.Line.{verdict_number}
-use Rattle.adjust.specs.Frames.{no_point, adjusted_of}
+use Rattle.adjust.specs.Frames.{no_point}
 use Rattle.rules.specs.declared.Run.{Run}
 use Rattle.rules.specs.declared.Book.{Book}
-use Rattle.rules.specs.LineState.{state_of}
-use Rattle.book.specs.Calls.{closing_of, figures_refusal}
+use Rattle.book.specs.Calls.{figures_refusal, told_of}
 
 abbrev pub no_figures : LineFigures
 no_figures =
@@ -21,7 +20,7 @@ no_figures =
 
 -- of a closed book the figures of its line, of another zeros
 abbrev pub told : Book → LineFigures
-told b = cond (eqb (figures_refusal b) 0) (adjusted_of (closing_of (state_of b))) no_figures
+told b = cond (eqb (figures_refusal b) 0) (told_of b) no_figures
 
 -- W, L, n, T and the verdict; the present run's count, G, s and sum of d; the number of sections
 abbrev pub head_figures : Summary → Run → ℕ → List ℤ

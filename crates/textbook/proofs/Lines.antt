@@ -1,40 +1,23 @@
 -- Lines that come off the front of a text, its first line, and the refusals among the numbers of its lines.
 use mathlib.Core.Path.{◌≡◌, refl, sym, ap, ◌∙◌}
 use mathlib.Core.Bool.{true, false, cond}
-use mathlib.Core.List.{List, [], ◌∷◌, ◌++◌, append-nil}
+use mathlib.Core.List.{List, [], ◌∷◌, ◌++◌}
 use mathlib.Core.Logic.{◌≢◌}
 use Prim.Native.Nat.{ℕ, zero, suc, ◌*◌, ◌≤◌, ◌<◌, min}
 use native.Mathlib.Omega.{arith}
 use lib.Dec.{eqb}
-use lib.ListN.{length, replicate, take, drop, length-append, length-take, length-drop, drop_of_length-le}
-use lib.Seq.{take_all, take_at, drop_at}
-use Rattle.std.proofs.lemmas.Bool.{cases_lt}
-use Rattle.std.proofs.lemmas.List.{nil_from_length}
-use Rattle.std.proofs.Common.{inl, inr}
+use lib.ListN.{length, replicate, take, drop, length-take, length-drop}
 use Rattle.numbers.specs.Numbers.{filled}
-use Rattle.numbers.proofs.Arrays.{written_none}
+use Rattle.numbers.proofs.Arrays.{chunk_parts, written_none}
 use Rattle.columns.specs.Decimals.{same, blanks}
 use Rattle.columns.specs.Lines.{line_end, line_with, heading}
 use Rattle.columns.specs.Texts.{lines}
 use Rattle.columns.proofs.Compare.{same_lengths}
 use Rattle.columns.proofs.Texts.{lines_next, lines_end}
-use Rattle.textbook.specs.Text.{Refusal, refusals_from}
+use Rattle.textbook.specs.Text.{RefusedLine, refusals_from}
 use Rattle.textbook.specs.code.State.{text_from, after_heading, unread, text_state}
 
 -- ---- a line that comes off the front of a text
-
--- the first n elements of a list, or all where it is shorter, and the others
-pub chunk_parts : (n : ℕ) (all chunk rest : List ℕ) → all ≡ chunk ++ rest → length chunk ≡ min n (length all) → (take n all ≡ chunk) × (drop n all ≡ rest)
-chunk_parts n all chunk rest parts size =
-    let sum = ap length parts ∙ length-append chunk rest in
-    elim (cases_lt (length all) n) [
-      | inl short ↦
-          let none : rest ≡ [] = nil_from_length rest (omega arith) in
-          (take_all n all (omega arith) ∙ parts ∙ ap (λ (r : List ℕ). chunk ++ r) none ∙ append-nil chunk, drop_of_length-le all (omega arith) ∙ sym none)
-      | inr long ↦
-          let whole : length chunk ≡ n = omega arith in
-          (ap (take n) parts ∙ take_at chunk rest n whole, ap (drop n) parts ∙ drop_at chunk rest n whole)
-    ]
 
 pub lines_chunk : (all line rest : List ℕ) → all ≡ line ++ rest → length line ≡ min 84 (length all) → 0 < length all → lines all ≡ line ∷ lines rest
 lines_chunk all line rest parts size some =
@@ -82,4 +65,4 @@ unfolding refusals_from
 refusals_filled k n [] h = ap (refusals_from k) (written_none (replicate n 0)) ∙ no_refusals k n
 refusals_filled k zero (x ∷ ns) h = absurd (omega arith)
 refusals_filled k (suc n) (x ∷ ns) h =
-    ap (λ (xs : List Refusal). cond (eqb x 0) [] (record { line = k; number = x } ∷ []) ++ xs) (refusals_filled (suc k) n ns (omega arith))
+    ap (λ (xs : List RefusedLine). cond (eqb x 0) [] (record { line = k; number = x } ∷ []) ++ xs) (refusals_filled (suc k) n ns (omega arith))

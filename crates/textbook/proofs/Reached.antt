@@ -1,16 +1,16 @@
 -- What the reader holds before each line after the heading: the book of the plain reading so far, and its numbers.
-use mathlib.Core.Path.{◌≡◌, refl, sym, ap, ◌∙◌}
+use mathlib.Core.Path.{◌≡◌, sym, ap, ◌∙◌}
 use mathlib.Core.List.{List, [], ◌∷◌, ◌++◌, append-nil, append_assoc}
 use Prim.Native.Nat.{ℕ, suc, ◌+◌, ◌*◌, ◌≤◌, ◌<◌, min}
 use native.Mathlib.Omega.{arith}
 use lib.ListN.{length, set, drop, length-append, length-drop}
 use lib.Seq.{drop-drop}
 use Rattle.numbers.specs.Numbers.{filled}
+use Rattle.numbers.proofs.Arrays.{chunk_parts}
 use Rattle.numbers.proofs.Filled.{filled_set}
 use Rattle.columns.specs.Texts.{lines}
 use Rattle.columns.proofs.Texts.{lines_end}
 use Rattle.rules.specs.declared.Book.{Book}
-use Rattle.book.specs.Calls.{fresh_book}
 use Rattle.ledger.specs.Plain.{Reading, fresh_reading, plain_state, book_of}
 use Rattle.ledger.specs.Entries.{Entry, entry_refusal, entry_next, entry_number, entry_book}
 use Rattle.ledger.proofs.Kept.{Kept, fresh_kept}
@@ -18,8 +18,8 @@ use Rattle.ledger.proofs.Again.{fresh_holds}
 use Rattle.ledger.proofs.Entries.{entry_kept, entry_number_lem, entry_book_lem}
 use Rattle.textbook.specs.declared.text.State.{State}
 use Rattle.textbook.specs.Text.{most_text, line_entry, line_refusals, reading_after}
-use Rattle.textbook.specs.code.State.{read, after_heading}
-use Rattle.textbook.proofs.Lines.{chunk_parts, lines_chunk}
+use Rattle.textbook.specs.code.State.{read, fresh_state, after_heading}
+use Rattle.textbook.proofs.Lines.{lines_chunk}
 
 -- what the lines of `rest` leave of the reading r and the numbers ns of the lines before them
 abbrev leaves : Reading → List ℕ → List ℕ → State
@@ -36,14 +36,14 @@ pub record Reached (t : List ℕ) (b : Book) (places : List ℕ) (k : ℕ) (rest
   pub left : rest ≡ drop (84 * k) t
   pub goes_on : leaves reading numbers rest ≡ after_heading (lines t)
 
-pub reached_first : (t rest : List ℕ) (b : Book) (k : ℕ) → b ≡ fresh_book → k ≡ 0 → rest ≡ t → Reached t b (filled 0 778 []) k rest
-reached_first t rest b k e first whole =
+pub reached_first : (t rest : List ℕ) (b : Book) (places : List ℕ) (k : ℕ) → b ≡ fresh_state.book → places ≡ fresh_state.refusals → k ≡ 0 → rest ≡ t → Reached t b places k rest
+reached_first t rest b places k e p first whole =
     record {
       reading = fresh_reading;
       numbers = [];
       counted = sym first;
       holds = e ∙ fresh_holds;
-      filled_in = refl;
+      filled_in = p;
       kept = fresh_kept;
       left = whole ∙ ap (λ (n : ℕ). drop (84 * n) t) (sym first);
       goes_on = ap (leaves fresh_reading []) whole;

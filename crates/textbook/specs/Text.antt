@@ -36,11 +36,11 @@ calls_of ls = Entries.calls_of (entries ls)
 -- ---- refusals
 
 -- a refused line of the text, counted from 1
-pub record Refusal : Type 0 where
+pub record RefusedLine : Type 0 where
   pub line : ℕ
   pub number : ℕ
 
 -- the refusals among the numbers of lines from line k on, in order
-unfoldable pub refusals_from : ℕ → List ℕ → List Refusal
+unfoldable pub refusals_from : ℕ → List ℕ → List RefusedLine
 refusals_from k [] = []
 refusals_from k (n ∷ ns) = cond (eqb n 0) [] (record { line = k; number = n } ∷ []) ++ refusals_from (suc k) ns

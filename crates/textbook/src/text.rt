@@ -4,7 +4,7 @@ ghost use Rattle.records.specs.Refusals.{number_of};
 ghost use Rattle.columns.specs.Texts.{lines};
 ghost use Rattle.ledger.specs.Entries.{entry_number, entry_book};
 ghost use Rattle.textbook.specs.Text.{most_text, line_entry};
-ghost use Rattle.textbook.specs.code.State.{text_from, after_heading, unread, text_state};
+ghost use Rattle.textbook.specs.code.State.{text_from, fresh_state, after_heading, text_state};
 
 use book::calls::enter;
 use columns::parser::{is_heading, parse_line};
@@ -40,37 +40,42 @@ fn take_line(book: &mut Book, bytes: &[u8]) -> Result<(), Refusal>
     enter(book, &Call::from(record))
 }
 
-// The lines after the heading, one after the other, of a text that is not too long. The first of them is line 2.
-fn read_lines(text: &[u8]) -> State
-    requires { 84 + length text.now ≤ most_text }
-    ensures { result ≡ after_heading (lines text.now) }
+// Before anything is read.
+pub fn fresh() -> State
+    ensures { result ≡ fresh_state }
 {
-    let mut book = book::fresh();
-    let mut refusals = [0u8; 778];
-    for (k, line) in text.chunks(84).enumerate() {
-        refusals[k + 2] = number_of(take_line(&mut book, line));
+    State {
+        book: book::fresh(),
+        refusals: [0; 778],
     }
-    State { book, refusals }
 }
 
-// Nothing is read of a text without the heading.
-fn unread_state() -> State
-    ensures { result ≡ unread }
+// The lines after the heading, one after the other, of a text that is not too long, into the book and the places of a fresh state. The first of them is line 2.
+fn read_lines(text: &[u8], book: &mut Book, refusals: &mut [u8; 778])
+    requires short { 84 + length text.now ≤ most_text }
+    requires fresh_book { book.old ≡ fresh_state.book }
+    requires fresh_places { refusals.old ≡ fresh_state.refusals }
+    ensures { record { book = book.new; refusals = refusals.new } ≡ after_heading (lines text.now) }
 {
-    let mut refusals = [0u8; 778];
-    refusals[1] = 1;
-    let book = book::fresh();
-    State { book, refusals }
+    for (k, line) in text.chunks(84).enumerate() {
+        // By index: where a line goes is its number, and of places that `iter_mut` lends the proof would know nothing.
+        refusals[k + 2] = number_of(take_line(book, line));
+    }
 }
 
-// What is left of a text from line `first` on, read as a text of its own: that line is its heading.
+// What is left of a text from line `first` on, read as a text of its own into a fresh state: that line is its heading, and without it nothing is read.
 #[tactic(auto, using(crate::proofs::Lines::with_heading, crate::proofs::Lines::without_heading, crate::proofs::Lines::no_heading))]
-pub(crate) fn read_from(text: &[u8], first: usize) -> State
-    requires { length text.now ≤ most_text }
-    ensures { result ≡ text_state (lines (text_from text.now first)) }
+pub(crate) fn read_from(text: &[u8], first: usize, state: &mut State)
+    requires short { length text.now ≤ most_text }
+    requires fresh { state.old ≡ fresh_state }
+    ensures { state.new ≡ text_state (lines (text_from text.now first)) }
 {
     match text_from(text, first).split_at_checked(84) {
-        Some((line, rest)) if is_heading(line) => read_lines(rest),
-        _ => unread_state(),
+        Some((line, rest)) if is_heading(line) => read_lines(
+            rest,
+            &mut state.book,
+            &mut state.refusals,
+        ),
+        _ => state.refusals[1] = 1,
     }
 }

@@ -1,21 +1,20 @@
 -- The lines of a report as they are written from the reader's state.
-use Rattle.std.specs.Prelude.{◌≡◌, true, false, not, cond, List, [], ◌∷◌, ◌++◌, map, ℕ, ◌≤◌, eqb}
-use Rattle.numbers.specs.Numbers.{any_of}
+use Rattle.std.specs.Prelude.{◌≡◌, true, false, not, cond, List, [], ◌∷◌, ◌++◌, map, ℕ, ◌≤◌, eqb, length}
+use Rattle.numbers.specs.Numbers.{any_of, put_at}
 use Rattle.adjust.specs.declared.Point.{Point}
 use Rattle.adjust.specs.declared.LineFigures.{LineFigures}
-use Rattle.adjust.specs.Frames.{adjusted_of}
 use Rattle.columns.specs.Lines.{title}
 use Rattle.rules.specs.declared.Book.{Book}
-use Rattle.rules.specs.LineState.{state_of}
-use Rattle.book.specs.Calls.{closing_in, closing_of, figures_refusal}
+use Rattle.book.specs.Calls.{closing_in, figures_refusal, told_of}
 use Rattle.textbook.specs.declared.text.State.{State}
 use Rattle.textbook.specs.Text.{refusals_from}
 use Rattle.fieldbook.specs.Report.{ref_line, opn_line, closing_lines}
 use Rattle.fieldbook.specs.Fits.{closed_fits, point_fits}
 
--- of line k's number: nothing where the line was taken
-abbrev pub refusal_bytes : ℕ → ℕ → List ℕ
-refusal_bytes k n = cond (eqb n 0) [] (ref_line (record { line = k; number = n }))
+-- a piece x of the report is written at the beginning of a buffer, and its length n is answered
+pub record Puts (x old new : List ℕ) (n : ℕ) : Type 0 where
+  pub value : n ≡ length x
+  pub buf_after : new ≡ put_at old 0 x
 
 -- the refusals among the numbers of lines from line k on
 abbrev pub refusal_lines : ℕ → List ℕ → List (List ℕ)
@@ -23,10 +22,6 @@ refusal_lines k ns = map ref_line (refusals_from k ns)
 
 abbrev pub figures_lines : LineFigures → List (List ℕ)
 figures_lines f = closing_lines (closing_in f)
-
--- the figures that a closed book tells
-abbrev pub told_of : Book → LineFigures
-told_of b = adjusted_of (closing_of (state_of b))
 
 -- of a book whose figures were asked for: the closing, or how many sections the line has
 abbrev pub book_lines : Book → List (List ℕ)

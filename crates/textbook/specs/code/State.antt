@@ -15,6 +15,10 @@ text_from text (suc k) = drop (84 * k) text
 
 -- ---- states
 
+-- before anything is read
+abbrev pub fresh_state : State
+fresh_state = record { book = fresh_book; refusals = filled 0 778 [] }
+
 -- the book holds the reading r, and the lines after the heading have the refusal numbers ns, which all have a place where the text is not too long
 abbrev pub read : Reading → List ℕ → State
 read r ns = record { book = book_of r; refusals = filled 0 778 (0 ∷ 0 ∷ ns) }

@@ -29,8 +29,5 @@ loop-point-preserved c =
       left = left_turn c.loop-point.invariant.left p (points_left ps (k + 1)) (points_turn ps k h) (omega (arith, is, after.value)) (part_put c.loop-point.buf c.put_point-at.new.buf p c.loop-point.at after.buf_after) (omega (arith, after.value));
     }
 
-pub returns-clause-value : goal.returns-clause-value
-returns-clause-value c = (left_none c.loop-point.invariant.left (no_point_left c.args.points.now c.loop-point.point-index (omega arith))).0
-
-pub returns-clause-buf_after : goal.returns-clause-buf_after
-returns-clause-buf_after c = (left_none c.loop-point.invariant.left (no_point_left c.args.points.now c.loop-point.point-index (omega arith))).1
+pub returns : goal.returns
+returns c = left_none c.loop-point.invariant.left (no_point_left c.args.points.now c.loop-point.point-index (omega arith))
