@@ -35,7 +35,7 @@ impl<'a> Standing<'a> {
         })
     }
 
-    // The same of a book all of whose sections are read.
+    // For a call that reads the sections: 20 also where one of them does not fit.
     pub(crate) fn of_read(b: &'a Book) -> Result<Self, Refusal>
         ensures number { number_of result ≡ cond (broken_in true (state_of b.now)) 20 0 }
         ensures state { IfOk result (λ s. standing_of s ≡ state_of b.now) }
