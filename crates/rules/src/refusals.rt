@@ -1,6 +1,5 @@
 // The refusals of the calls but opening and closing: what the input alone causes, a station's apart, then 20, then what the book's state causes, the first that applies.
-ghost use Rattle.std.specs.Prelude.{◌≡◌, false, not, ◌≤◌};
-ghost use Rattle.numbers.specs.Numbers.{eq_z};
+ghost use Rattle.std.specs.Prelude.{◌≡◌, false, not};
 ghost use Rattle.numbers.specs.Tables.{first_of};
 ghost use Rattle.records.specs.Refusals.{number_of};
 ghost use Rattle.rules.specs.LineState.{state_of, outward_or_return, both_ways};
