@@ -19,7 +19,7 @@ fn count_digits(x: u64) -> usize
     }
 }
 
-// Whether x fits k columns. Of eight columns, as nearly all fields have, by its range: to count the digits of each number costs more than to write them.
+// Whether x fits k columns. Eight, as nearly all fields have, are told by the range: to count the digits of each number that is printed was tried and is slower.
 #[tactic(auto, using(crate::proofs::Sets::fits), unfolding(crate::specs::Decimals::fits_in))]
 pub fn fits(x: i64, k: usize) -> bool
     ensures { result ≡ fits_in k x }
