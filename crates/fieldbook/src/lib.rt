@@ -6,7 +6,7 @@ ghost use Rattle.fieldbook.specs.Report.{text_refusal, buffer_after, length_afte
 ghost use Rattle.numbers.specs.Numbers.{put_at};
 
 use records::Refusal;
-use textbook::reader::read_text;
+use textbook::reader::read_into;
 use textbook::text::fresh;
 
 mod printing;
@@ -17,7 +17,7 @@ pub fn reduce_text(text: &[u8], report: &mut [u8]) -> Result<usize, Refusal>
     ensures report_after { report.new ≡ buffer_after text.now report.old }
 {
     let mut state = fresh();
-    read_text(text, &mut state)?;
+    read_into(text, &mut state)?;
     if report.len() < 65536 {
         return Err(Refusal::ReportRoom);
     }

@@ -1,5 +1,5 @@
 // A text book read by a reader that holds the lent text. What is read from a line on is in `text`.
-ghost use Rattle.std.specs.Prelude.{◌≡◌, ◌≤◌, cond, length};
+ghost use Rattle.std.specs.Prelude.{◌≡◌, ◌≤◌, cond, length, IfOk};
 ghost use Rattle.records.specs.Refusals.{number_of};
 ghost use Rattle.columns.specs.Texts.{lines};
 ghost use Rattle.textbook.specs.Text.{most_text, too_long};
@@ -35,7 +35,7 @@ impl<'a> Reader<'a> {
 }
 
 // Reads a text into a state, whatever it held: the plain reading of the text's lines. Of a text that is too long no line is read, and the state stays.
-pub fn read_text(text: &[u8], state: &mut State) -> Result<(), Refusal>
+pub fn read_into(text: &[u8], state: &mut State) -> Result<(), Refusal>
     ensures number { number_of result ≡ cond (too_long text.now) 9 0 }
     ensures state { state.new ≡ cond (too_long text.now) state.old (text_state (lines text.now)) }
 {
@@ -45,4 +45,14 @@ pub fn read_text(text: &[u8], state: &mut State) -> Result<(), Refusal>
     *state = fresh();
     Reader::start(text).read_rest(state);
     Ok(())
+}
+
+// The state that a text leaves. (`read_into` copies none, which on a short text is a quarter of the instructions.)
+pub fn read_text(text: &[u8]) -> Result<State, Refusal>
+    ensures number { number_of result ≡ cond (too_long text.now) 9 0 }
+    ensures state { IfOk result (λ s. s ≡ text_state (lines text.now)) }
+{
+    let mut state = fresh();
+    read_into(text, &mut state)?;
+    Ok(state)
 }

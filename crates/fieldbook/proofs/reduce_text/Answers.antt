@@ -15,32 +15,32 @@ use Rattle.fieldbook.proofs.Bytes.{report_fits}
 use Rattle.fieldbook.proofs.Reports.{report_read, state_printable, refused, reported, unread_text, read_short, too_small_lem, not_refused}
 use Rattle.fieldbook.proofs.reduce_text.Goals as goal
 
-pub returns-in_err-read_text-clause-reduces : goal.returns-in_err-read_text-clause-reduces
-returns-in_err-read_text-clause-reduces c =
+pub returns-in_err-read_into-clause-reduces : goal.returns-in_err-read_into-clause-reduces
+returns-in_err-read_into-clause-reduces c =
     let t = c.args.text.now in
     let d = c.args.report.now in
-    let x = c.in_err-read_text.field-0.0 in
+    let x = c.in_err-read_into.field-0.0 in
     let p = err_from_is_err_and c.from_residual.result c.from_residual.ensures.1 in
-    rw (p.1, p.2) (refused t d x (unread_text t d x c.in_err-read_text.ensures.number)).0
+    rw (p.1, p.2) (refused t d x (unread_text t d x c.in_err-read_into.ensures.number)).0
 
-pub returns-in_err-read_text-clause-report_after : goal.returns-in_err-read_text-clause-report_after
-returns-in_err-read_text-clause-report_after c =
+pub returns-in_err-read_into-clause-report_after : goal.returns-in_err-read_into-clause-report_after
+returns-in_err-read_into-clause-report_after c =
     let t = c.args.text.now in
     let d = c.args.report.now in
-    let x = c.in_err-read_text.field-0.0 in
-    (refused t d x (unread_text t d x c.in_err-read_text.ensures.number)).1
+    let x = c.in_err-read_into.field-0.0 in
+    (refused t d x (unread_text t d x c.in_err-read_into.ensures.number)).1
 
 pub returns-then-report-lt65536-clause-reduces : goal.returns-then-report-lt65536-clause-reduces
 returns-then-report-lt65536-clause-reduces c =
     let t = c.args.text.now in
     let d = c.args.report.now in
-    (refused t d ReportRoom (too_small_lem t d (read_short t c.in_ok-read_text.ensures.number) c.if-report-lt65536.true)).0
+    (refused t d ReportRoom (too_small_lem t d (read_short t c.in_ok-read_into.ensures.number) c.if-report-lt65536.true)).0
 
 pub returns-then-report-lt65536-clause-report_after : goal.returns-then-report-lt65536-clause-report_after
 returns-then-report-lt65536-clause-report_after c =
     let t = c.args.text.now in
     let d = c.args.report.now in
-    (refused t d ReportRoom (too_small_lem t d (read_short t c.in_ok-read_text.ensures.number) c.if-report-lt65536.true)).1
+    (refused t d ReportRoom (too_small_lem t d (read_short t c.in_ok-read_into.ensures.number) c.if-report-lt65536.true)).1
 
 -- a text that is not too long is read, and has its report
 read : (t : List ℕ) {s : State} (old : State) → length t ≤ most_text → s ≡ cond (too_long t) old (text_state (lines t)) → s ≡ text_state (lines t)
@@ -52,9 +52,9 @@ same t s e h = ap (λ (s : State). joined (state_lines s)) e ∙ report_read t h
 pub put_state-requires : goal.put_state-requires
 put_state-requires c =
     let t = c.args.text.now in
-    let s = c.read_text.new.state in
-    let h = read_short t c.in_ok-read_text.ensures.number in
-    let e = read t _ h c.in_ok-read_text.ensures.state in (
+    let s = c.read_into.new.state in
+    let h = read_short t c.in_ok-read_into.ensures.number in
+    let e = read t _ h c.in_ok-read_into.ensures.state in (
       omega arith,
       (subst (λ (s : State). Printable s.book) (sym e) (state_printable (lines t)), omega (arith, ap length (same t s e h), report_fits t h)),
     )
@@ -63,14 +63,14 @@ pub returns-clause-reduces : goal.returns-clause-reduces
 returns-clause-reduces c =
     let t = c.args.text.now in
     let d = c.args.report.now in
-    let h = read_short t c.in_ok-read_text.ensures.number in
-    let p = same t c.read_text.new.state (read t _ h c.in_ok-read_text.ensures.state) h in
+    let h = read_short t c.in_ok-read_into.ensures.number in
+    let p = same t c.read_into.new.state (read t _ h c.in_ok-read_into.ensures.state) h in
     (reported t d (not_refused t d h (omega arith)) (c.put_state.ensures.value ∙ ap length p) (c.put_state.ensures.buf_after ∙ ap (put_at d 0) p)).0
 
 pub returns-clause-report_after : goal.returns-clause-report_after
 returns-clause-report_after c =
     let t = c.args.text.now in
     let d = c.args.report.now in
-    let h = read_short t c.in_ok-read_text.ensures.number in
-    let p = same t c.read_text.new.state (read t _ h c.in_ok-read_text.ensures.state) h in
+    let h = read_short t c.in_ok-read_into.ensures.number in
+    let p = same t c.read_into.new.state (read t _ h c.in_ok-read_into.ensures.state) h in
     (reported t d (not_refused t d h (omega arith)) (c.put_state.ensures.value ∙ ap length p) (c.put_state.ensures.buf_after ∙ ap (put_at d 0) p)).1
