@@ -8,26 +8,30 @@ ghost use Rattle.textbook.specs.code.State.{text_from, fresh_state, text_state};
 use super::text::{State, fresh, read_from};
 use records::Refusal;
 
-// A text, and the number of the line that is read next, counted from 1.
+// A text that is not too long, and the number of the line that is read next, counted from 1.
 #[derive(Clone, Copy)]
 struct Reader<'a> {
     text: &'a [u8],
     line: usize,
+    ghost short: { length text.now ≤ most_text },
 }
 
 impl<'a> Reader<'a> {
-    // Before the first line.
-    fn start(text: &'a [u8]) -> Self
-        ensures text { result.text ≡ text.entry }
-        ensures line { result.line ≡ 1 }
+    // Before the first line; 9 of a text that is too long.
+    fn of(text: &'a [u8]) -> Result<Self, Refusal>
+        ensures number { number_of result ≡ cond (too_long text.now) 9 0 }
+        ensures text { IfOk result (λ r. r.text ≡ text.entry) }
+        ensures line { IfOk result (λ r. r.line ≡ 1) }
     {
-        Reader { text, line: 1 }
+        if 65268 < text.len() {
+            return Err(Refusal::TextTooLong);
+        }
+        Ok(Reader { text, line: 1 })
     }
 
     // What the text leaves from that line on, into a fresh state.
     fn read_rest(self, state: &mut State)
-        requires short { length self.text.now ≤ most_text }
-        requires fresh { state.old ≡ fresh_state }
+        requires { state.old ≡ fresh_state }
         ensures { state.new ≡ text_state (lines (text_from self.entry.text.now self.entry.line)) }
     {
         read_from(self.text, self.line, state)
@@ -39,11 +43,9 @@ pub fn read_into(text: &[u8], state: &mut State) -> Result<(), Refusal>
     ensures number { number_of result ≡ cond (too_long text.now) 9 0 }
     ensures state { state.new ≡ cond (too_long text.now) state.old (text_state (lines text.now)) }
 {
-    if 65268 < text.len() {
-        return Err(Refusal::TextTooLong);
-    }
+    let reader = Reader::of(text)?;
     *state = fresh();
-    Reader::start(text).read_rest(state);
+    reader.read_rest(state);
     Ok(())
 }
 
