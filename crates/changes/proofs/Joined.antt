@@ -33,7 +33,7 @@ use Rattle.rules.specs.declared.call.Call.{Call}
 use Rattle.rules.specs.declared.call.Call.TheVariants.{OpenLine as open_line, OpenSpur as open_spur, Station as station, EndRun as end_run}
 use Rattle.rules.specs.Rules.{class_of, instrument_of, broken, input_tests, state_tests, book_station_tests, book_refusal}
 use Rattle.rules.specs.code.Bounds.{SmallRuns}
-use Rattle.rules.specs.code.Opened.{class_named, spur_named, instrument_named, start_refusal, open_refusal}
+use Rattle.rules.specs.code.Opened.{class_named, spur_named, instrument_named, start_refusal, named_refusal}
 use Rattle.rules.proofs.Tables.{tables, line_unbroken}
 use Rattle.rules.proofs.Unbroken.{Unbroken, unbroken, small_runs}
 use Rattle.changes.specs.declared.Change.{Change}
@@ -55,7 +55,7 @@ module _ (b : Book) (number height : ℤ) where
   -- what is answered of a class and an instrument
   abbrev Opens : Option Class → Option Instrument → Result Change Refusal → Type 0
   Opens y z r =
-      (number_of r ≡ open_refusal (state_of b) y z number height)
+      (number_of r ≡ named_refusal (state_of b) y z number height)
       × MatchOption y ⊤ (λ (class : Class). MatchOption z ⊤ (λ (instrument : Instrument). IfOk r (λ (x : Change). x ≡ opened class instrument number height)))
 
   -- a refusal gives nothing

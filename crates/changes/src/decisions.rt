@@ -4,7 +4,7 @@ ghost use Rattle.records.specs.Refusals.{number_of};
 ghost use Rattle.rules.specs.LineState.{state_of};
 ghost use Rattle.rules.specs.declared.call.Call.TheVariants.{Station as station, EndRun as end_run, DropRun as drop_run, Collimation as collimation};
 ghost use Rattle.rules.specs.Rules.{book_refusal};
-ghost use Rattle.rules.specs.code.Opened.{open_refusal};
+ghost use Rattle.rules.specs.code.Opened.{named_refusal};
 ghost use Rattle.rules.specs.code.Closed.{closing_on};
 ghost use Rattle.changes.specs.Changes.{Decides, opened};
 
@@ -39,7 +39,7 @@ fn open_change(
     number: i64,
     height: i64,
 ) -> Result<Change, Refusal>
-    ensures number { number_of result ≡ open_refusal (state_of b.now) class instrument number height }
+    ensures number { number_of result ≡ named_refusal (state_of b.now) class instrument number height }
     ensures change { MatchOption class ⊤ (λ y. MatchOption instrument ⊤ (λ z. IfOk result (λ x. x ≡ opened y z number height))) }
 {
     let class = class.ok_or(Refusal::OrderOrInstrument)?;

@@ -21,13 +21,18 @@ pub enum Call {
         readings: [[i64; 4]; 2],
     },
     // End the present run on a benchmark.
-    EndRun { number: i64 },
+    EndRun {
+        number: i64,
+    },
     // Empty the present run.
     DropRun,
     // Empty the present run and what waits for its return.
     DropSection,
     // Close the line on its last benchmark, whose known height is end.
-    CloseLine { number: i64, end: i64 },
+    CloseLine {
+        number: i64,
+        end: i64,
+    },
     // Open a spur: as a line, of order 4.
     OpenSpur {
         order: i64,
@@ -36,9 +41,13 @@ pub enum Call {
         height: i64,
     },
     // Close the spur on its last benchmark.
-    CloseSpur { number: i64 },
+    CloseSpur {
+        number: i64,
+    },
     // The collimation test: A1, B1, A2, B2, each the sum of four readings, and the distances D1 and D2, all in mm.
-    Collimation { values: [i64; 6] },
+    Collimation {
+        values: [i64; 6],
+    },
 }
 
 impl From<Record> for Call {

@@ -25,5 +25,5 @@ abbrev pub start_refusal : LineState → ℤ → ℤ → ℕ
 start_refusal v number height = first_of (open_tests true (pos 3) number height ++ ((20, broken_in false v) ∷ open_state v))
 
 -- and of what the other numbers name
-abbrev pub open_refusal : LineState → Option Class → Option Instrument → ℤ → ℤ → ℕ
-open_refusal v class instrument number height = cond (is_some class && is_some instrument) (start_refusal v number height) 3
+abbrev pub named_refusal : LineState → Option Class → Option Instrument → ℤ → ℤ → ℕ
+named_refusal v class instrument number height = cond (is_some class && is_some instrument) (start_refusal v number height) 3
