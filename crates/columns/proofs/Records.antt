@@ -2,10 +2,12 @@
 use mathlib.Core.Path.{◌≡◌, refl, sym, ap, subst, ◌∙◌}
 use mathlib.Core.Bool.{Bool, true, false, not, cond}
 use mathlib.Core.List.{List, [], ◌∷◌}
-use Prim.Native.Nat.{ℕ, ◌+◌, ◌-◌, ◌*◌, ◌≤◌, ◌<◌}
+use Prim.Native.Nat.{ℕ, zero, suc, ◌+◌, ◌-◌, ◌*◌, ◌≤◌, ◌<◌}
 use native.Mathlib.Omega.{arith}
 use lib.IntN.{ℤ, pos}
-use lib.ListN.{length, take, drop, set, length-drop}
+use lib.ListN.{length, get_or, take, drop, set, length-take, length-drop}
+use Rattle.std.specs.Simd.{first_chunks}
+use Rattle.std.proofs.lemmas.List.{get_or-take}
 use lib.Seq.{drop-drop}
 use Rattle.numbers.specs.Tables.{first_of, Lowest}
 use Rattle.numbers.specs.Numbers.{put_at}
@@ -24,10 +26,27 @@ use Rattle.records.specs.Refusals.{number_of}
 use Rattle.columns.specs.Decimals.{same, field_of}
 use Rattle.columns.specs.Lines.{line_end}
 use Rattle.columns.specs.Records.{field_count, tags, tag_among, all_numbers, numbers_in, record_line, numbers_line, record_in, line_of_tag, line_in, has_shape, has_numbers, shape_tests, Parses}
-use Rattle.columns.proofs.Lists.{left_next, left_none}
+use Rattle.columns.proofs.Lists.{left_next, left_none, part_rest}
 use Rattle.columns.proofs.Compare.{same_lengths}
 use Rattle.columns.proofs.Lines.{length_end}
 use Rattle.columns.proofs.Tags.{tag_facts}
+
+-- field i of those that are lent as chunks of eight
+chunk_at : (k i : ℕ) (xs d : List ℕ) → i < k → get_or (first_chunks 8 k xs) i d ≡ take 8 (drop (8 * i) xs)
+chunk_at zero i xs d h = absurd (omega arith)
+chunk_at (suc k) zero xs d h = refl
+chunk_at (suc k) (suc i) xs d h = chunk_at k i (drop 8 xs) d (omega arith) ∙ ap (take 8) (drop-drop (8 * i) 8 xs ∙ ap (λ (j : ℕ). drop j xs) (eight i))
+  where
+    eight : (i : ℕ) → 8 + 8 * i ≡ 8 * suc i
+    eight i = omega arith
+
+pub field_lent : (l : List ℕ) (n i : ℕ) {k : ℕ} {fields : List (List ℕ)} (d : List ℕ) → fields ≡ first_chunks 8 k (take (length l - 3) (drop 3 l)) → length fields ≡ k
+    → i < length (take n fields) → get_or (take n fields) i d ≡ take 8 (drop (3 + 8 * i) l)
+field_lent l n i {k} {fields} d e f h =
+    get_or-take n fields i d (omega (arith, length-take n fields))
+    ∙ ap (λ (x : List (List ℕ)). get_or x i d) (e ∙ ap (first_chunks 8 k) (part_rest l 3))
+    ∙ chunk_at k i (drop 3 l) d (omega (arith, f, length-take n fields))
+    ∙ ap (take 8) (drop-drop (8 * i) 3 l)
 
 module _ (l : List ℕ) (n i : ℕ) (h : i < n) where
   -- field i

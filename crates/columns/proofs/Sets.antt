@@ -23,7 +23,7 @@ pub ruleset negate = (minus_above, minus_none, minus_fits, to_z-of_z)
 
 pub ruleset read_field = (field_skip, field_none, field_first_minus, field_first_other, length-take, length-drop)
 
-pub ruleset read_numbers = (numbers_next, numbers_stop, numbers_end, values_put, values_end, line_refused, line_taken, put_none)
+pub ruleset read_numbers = (numbers_next, numbers_stop, numbers_end, values_put, values_end, line_refused, line_taken, put_none, length-take)
 
 pub ruleset find_tag = (tag_three, tag_shorter, tag_longer, nat_tests)
 

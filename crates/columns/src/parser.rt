@@ -52,11 +52,10 @@ fn negate(n: Option<i64>) -> Option<i64>
 
 // The number that stands in a field.
 #[tactic(auto, using(crate::proofs::Sets::read_field))]
-fn read_field(field: &[u8]) -> Option<i64>
-    requires { length field.now ≤ 18 }
+fn read_field(field: &[u8; 8]) -> Option<i64>
     ensures { result ≡ field_of field.now }
 {
-    let mut bs = field;
+    let mut bs = field.as_slice();
     while let [b' ', rest @ ..] = bs {
         bs = rest;
     }
@@ -73,10 +72,10 @@ fn read_numbers(line: &[u8], tag: Tag, n: usize) -> Result<Record, Refusal>
     ensures { result ≡ numbers_line tag n (drop 3 line.now) }
 {
     let mut values = [0i64; 10];
+    let (fields, _) = line[3..].as_chunks();
     // By index: of places that `iter_mut` lends to a chain the proof would know nothing.
-    for i in 0..n {
-        let at = 3 + 8 * i;
-        values[i] = read_field(&line[at..at + 8]).ok_or(Refusal::BadField)?;
+    for (i, field) in fields[..n].iter().enumerate() {
+        values[i] = read_field(field).ok_or(Refusal::BadField)?;
     }
     Ok(Record { tag, values })
 }
