@@ -145,7 +145,7 @@ pub fn put_line(buf: &mut [u8], at: usize, tag: &[u8], numbers: &[i64], wide: bo
     true
 }
 
-// The report's title from index at on: whether the buffer had room for it.
+// The report's title from index at on: whether the buffer had room for it, a plain yes or no as of `put_line` and for the same reason.
 #[tactic(auto, unfolding(crate::specs::Lines::title, crate::specs::Lines::tag_line, crate::specs::Lines::line_fits, crate::specs::Lines::columns_of, crate::specs::Lines::all_fit, crate::specs::Lines::fields))]
 pub fn put_title(buf: &mut [u8], at: usize) -> bool
     ensures value { result ≡ leb (at + 84) (length buf.old) }
