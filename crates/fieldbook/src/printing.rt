@@ -12,7 +12,7 @@ use columns::writer::{is_wide, put_line, put_title};
 use rules::Book;
 use textbook::text::State;
 
-// A line whose numbers fit: its length.
+// A line whose numbers fit: its length. (Lines as `&mut [u8; 84]`, by `split_at_mut` and `first_chunk_mut`, were tried and proved: a refused line takes four instructions more, a report of blank lines 2.5 %.)
 #[tactic(auto, using(crate::proofs::Written::put_whole))]
 fn put_whole(buf: &mut [u8], tag: &[u8], numbers: &[i64], wide: bool) -> usize
     requires fit { line_fits (length tag.now) numbers.now wide ≡ true }
@@ -123,7 +123,7 @@ fn put_below(buf: &mut [u8], s: &State) -> usize
     at + put_book(&mut buf[at..], &s.book)
 }
 
-// The report of what was read: its length.
+// The report of what was read: its length. (`Printable` goes down from here to `put_book` as a fact: a type that holds it would be made in `reduce_text` for this one call and taken apart in `put_book`.)
 #[tactic(auto, using(crate::proofs::Written::put_state))]
 pub(crate) fn put_state(buf: &mut [u8], s: &State) -> usize
     requires { (65536 ≤ length buf.old) × (Printable s.now.book × (length (joined (state_lines s.now)) ≤ length buf.old)) }
