@@ -101,12 +101,14 @@ module _ (r : Reading) (k : Kept (plain_state r)) (c : Call) (shuts : is_closing
   closed_kept : refusal r c ≡ 0 → Kept (plain_state closed)
   closed_kept e = subst (λ (q : Reading). Kept (plain_state q)) (reached e) (next_kept r c k)
 
+  -- where it is taken, what the figures give is what the plain reading gives
+  pub had_closing : (a : Result LineFigures Refusal) → (refusal r c ≡ 0 → a ≡ Ok (adjusted_of (Plain.figures_of closed))) → refusal r c ≡ 0 → gave_of a ≡ given r c
+  had_closing a is e = ap gave_of (is e) ∙ given_back closed.opening closed.end (plain_state closed).sections (closed_kept e).few ∙ sym (beside r c shuts)
+
   one_given : (a : Result LineFigures Refusal) → (refusal r c ≡ 0 → a ≡ Ok (adjusted_of (Plain.figures_of closed)))
       → cond (eqb (refusal r c) 0) (gave_of a) [] ≡ cond (eqb (refusal r c) 0) (given r c) []
-  one_given a is = by_test (eqb (refusal r c) 0) (λ t. cond t (gave_of a) [] ≡ cond t (given r c) []) (λ t. here (eqb→eq (refusal r c) 0 t)) (λ t. refl)
-    where
-      here : refusal r c ≡ 0 → gave_of a ≡ given r c
-      here e = ap gave_of (is e) ∙ given_back closed.opening closed.end (plain_state closed).sections (closed_kept e).few ∙ sym (beside r c shuts)
+  one_given a is =
+      by_test (eqb (refusal r c) 0) (λ t. cond t (gave_of a) [] ≡ cond t (given r c) []) (λ t. had_closing a is (eqb→eq (refusal r c) 0 t)) (λ t. refl)
 
   closing_gave : {b : Book} → b ≡ book_of r → (o : Outcome LineFigures) → Closes b c o → gave_of o.answer ≡ cond (eqb (refusal r c) 0) (given r c) []
   closing_gave {b} p o h =
