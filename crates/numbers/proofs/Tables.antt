@@ -7,7 +7,7 @@ use Prim.Native.Nat.{ℕ, ◌≤◌, ◌<◌}
 use native.Mathlib.Nat.{le_refl}
 use native.Mathlib.Omega.{arith}
 use borrow.Author.Tests.{eq-eqb, ne_eqb}
-use lib.Dec.{ltb, eqb, ltb→lt}
+use lib.Dec.{ltb, eqb, ltb→lt, eqb→eq}
 use Rattle.numbers.specs.Tables.{first_of, Applies, Lowest, none_applies, applies}
 use Rattle.numbers.proofs.Tests.{by_test, holds, no_true, and_l, and_r, not-true}
 
@@ -109,3 +109,7 @@ zero_cond n a b e = ap (λ (t : Bool). cond t a b) (eq-eqb n 0 e)
 
 pub nonzero_cond : {A : Type 0} (n : ℕ) (a b : A) → (n ≡ 0 → ⊥) → cond (eqb n 0) a b ≡ b
 nonzero_cond n a b f = ap (λ (t : Bool). cond t a b) (ne_eqb n 0 f)
+
+-- an answer that a number decides has that number, where the answer at 0 has 0: a law of its own, for answers that are no `Result`
+pub number_cond : {A : Type 0} (number : A → ℕ) (n : ℕ) (a b : A) → number a ≡ 0 → number b ≡ n → number (cond (eqb n 0) a b) ≡ n
+number_cond number n a b z e = by_test (eqb n 0) (λ t. number (cond t a b) ≡ n) (λ t. z ∙ sym (eqb→eq n 0 t)) (λ t. e)
