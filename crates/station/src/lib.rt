@@ -272,7 +272,7 @@ fn sum_within(x: i64, y: i64, limit: u64) -> bool
     (i128::from(x) + i128::from(y)).unsigned_abs() <= u128::from(limit)
 }
 
-// And x - y.
+// And x - y. Two functions and no one with the other's sign changed: `abs_diff` has room for every difference, and the sum needs 128 bits.
 fn difference_within(x: i64, y: i64, limit: u64) -> bool
     ensures { result ≡ within (x -ℤ y) limit }
 {

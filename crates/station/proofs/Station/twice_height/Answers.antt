@@ -1,5 +1,6 @@
 -- Twice the height of a station whose readings are not refused: no sum wraps, and the code's result is the whole number that the spec gives, and is small.
-use Rattle.std.proofs.Common.{◌≡◌, subst, ℤ, pos, ◌+ℤ◌, ◌-ℤ◌, ◌*ℤ◌}
+use mir.Val.{to_z}
+use Rattle.std.proofs.Common.{w64, ◌≡◌, subst, ℤ, pos, ◌+ℤ◌, ◌-ℤ◌, ◌*ℤ◌}
 use Rattle.numbers.proofs.Ring.{ringℤ}
 use Rattle.numbers.proofs.Machine.{stored}
 use Rattle.numbers.proofs.Chain.{Value, known, add, sub, mul, fits, kept}
@@ -7,6 +8,7 @@ use Rattle.station.specs.declared.Staffs.{Staffs}
 use Rattle.station.specs.Station.{Station, scale_of, constant_of, twice_height}
 use Rattle.station.proofs.Sizes.{Read, of_tests, scale_value, constant_value, sized}
 use Rattle.station.proofs.Station.twice_height.Goals as goal
+use Rattle.station.proofs.Station.twice_height.Goals.{After-constant_of-2}
 
 in_parts : (n mb mf rb rf k : ℤ) → n *ℤ ((mb -ℤ mf) +ℤ (rb -ℤ rf)) -ℤ k ≡ (n *ℤ mb -ℤ n *ℤ mf) +ℤ (n *ℤ rb -ℤ n *ℤ rf) -ℤ k
 in_parts n mb mf rb rf k = simp ringℤ
@@ -39,12 +41,22 @@ module _ {x : Station} (h : Read x) where
         (in_parts (pos (scale_of c)) x.back.black x.fore.black x.back.red x.fore.red (constant_of c x.back.constant -ℤ constant_of c x.fore.constant))
         (sub (kept parts tt) constants)
 
+-- the constants and the height, of what `constant_of` and `scale_of` answered
+module _ (c : After-constant_of-2) where
+  read_of : Read c.args.self.now
+  read_of = of_tests c.args.self.now c.requires
+
+  constants : Value (stored c.constant_of.result -ℤ stored c.constant_of-2.result)
+      (constant_of c.args.staffs c.args.self.now.back.constant -ℤ constant_of c.args.staffs c.args.self.now.fore.constant) 131070
+  constants =
+      sub (constant_value c.args.staffs c.args.self.now.back.constant read_of.back.constant c.constant_of.ensures.value c.constant_of.ensures.result_bound)
+      (constant_value c.args.staffs c.args.self.now.fore.constant read_of.fore.constant c.constant_of-2.ensures.value c.constant_of-2.ensures.result_bound)
+
+  whole : Value (stored (parts_of read_of (to_z w64 c.scale_of-scale.result)) -ℤ stored (stored c.constant_of.result -ℤ stored c.constant_of-2.result)) (twice_height c.args.staffs c.args.self.now) 351050
+  whole = height read_of c.args.staffs (scale_value c.args.staffs c.scale_of-scale.ensures) (kept constants tt)
+
 pub overflow_sub-constants : goal.overflow_sub-constants
-overflow_sub-constants c =
-    let h = of_tests c.args.self.now c.requires in
-    let back = constant_value c.args.staffs c.args.self.now.back.constant h.back.constant c.constant_of.ensures.value c.constant_of.ensures.result_bound in
-    let fore = constant_value c.args.staffs c.args.self.now.fore.constant h.fore.constant c.constant_of-2.ensures.value c.constant_of-2.ensures.result_bound in
-    fits (sub back fore) tt
+overflow_sub-constants c = fits (constants (goal.at.overflow_sub-constants c).After-constant_of-2) tt
 
 pub overflow_sub-result : goal.overflow_sub-result
 overflow_sub-result c = fits (black (of_tests c.args.self.now c.requires)) tt
@@ -60,16 +72,7 @@ overflow_mul-result c =
     fits (parts (of_tests c.args.self.now c.requires) c.args.staffs (scale_value c.args.staffs c.scale_of-scale.ensures)) tt
 
 pub overflow_sub-result-3 : goal.overflow_sub-result-3
-overflow_sub-result-3 c =
-    let h = of_tests c.args.self.now c.requires in
-    let back = constant_value c.args.staffs c.args.self.now.back.constant h.back.constant c.constant_of.ensures.value c.constant_of.ensures.result_bound in
-    let fore = constant_value c.args.staffs c.args.self.now.fore.constant h.fore.constant c.constant_of-2.ensures.value c.constant_of-2.ensures.result_bound in
-    fits (height h c.args.staffs (scale_value c.args.staffs c.scale_of-scale.ensures) (kept (sub back fore) tt)) tt
+overflow_sub-result-3 c = fits (whole (goal.at.overflow_sub-result-3 c).After-constant_of-2) tt
 
 pub returns : goal.returns
-returns c =
-    let h = of_tests c.args.self.now c.requires in
-    let back = constant_value c.args.staffs c.args.self.now.back.constant h.back.constant c.constant_of.ensures.value c.constant_of.ensures.result_bound in
-    let fore = constant_value c.args.staffs c.args.self.now.fore.constant h.fore.constant c.constant_of-2.ensures.value c.constant_of-2.ensures.result_bound in
-    let v = kept (height h c.args.staffs (scale_value c.args.staffs c.scale_of-scale.ensures) (kept (sub back fore) tt)) tt in
-    record { value = v.is; result_bound = sized v }
+returns c = let v = kept (whole (goal.at.returns c).After-constant_of-2) tt in record { value = v.is; result_bound = sized v }
