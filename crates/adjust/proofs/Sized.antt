@@ -1,5 +1,5 @@
 -- One to 64 sections in the wider range between known heights: the sizes of ΣQ, L and W, and that a line is at least 1 long.
-use mathlib.Core.Path.{◌≡◌, refl}
+use mathlib.Core.Path.{◌≡◌, refl, ap}
 use mathlib.Core.Bool.{Bool, true, false, not, cond, ◌&&◌}
 use mathlib.Core.List.{List, [], ◌∷◌}
 use Prim.Native.Nat.{ℕ, ◌*◌, ◌≤◌}
@@ -8,19 +8,21 @@ use lib.Dec.{leb, ltb, leb→le, ltb→lt, nltb→le}
 use lib.ListN.{length}
 use lib.IntN.{ℤ, pos, neg_ℤ, nat_abs}
 use lib.Signed.{◌≤ℤ◌, le_z}
+use Rattle.std.specs.Prelude.{Some, None}
 use Rattle.numbers.proofs.Tests.{holds, fails, and_l, and_r, or_l, or_r, not-true, not-false}
 use Rattle.numbers.proofs.Parts.{ints, parts_add, parts_abs, test_le}
 use Rattle.numbers.proofs.Sizes.{abs_add}
 use Rattle.std.proofs.lemmas.Int.{to_z-of_z}
 use Rattle.numbers.proofs.Tables.{failed}
 use Rattle.numbers.proofs.Chain.{plain, add, sub, mul}
+use Rattle.adjust.specs.declared.Opening.{Opening}
 use Rattle.adjust.specs.declared.Section.{Section}
 use Rattle.adjust.specs.declared.Totals.{Totals}
 use Rattle.adjust.specs.declared.terms.Terms.{Terms}
 use Rattle.adjust.specs.Sizes.{highest, most_q, most_r, most_units, most_prints, most_sum_q, most_w}
 use Rattle.adjust.specs.Sections.{section_fits, any_outside, misfit, height_in_range}
-use Rattle.adjust.specs.Line.{quarters, wholes, line_height, line_length, totals_by, frame, frame_of}
-use Rattle.adjust.specs.Frames.{figures_fit}
+use Rattle.adjust.specs.Line.{quarters, wholes, line_height, line_length, totals, totals_by, frame, frame_of, closing}
+use Rattle.adjust.specs.Frames.{figures_fit, line_totals, adjusted_of, line_figures}
 use Rattle.adjust.specs.Call.{adjust_tests, adjust_refusal}
 use Rattle.adjust.specs.code.Bounds.{OneTo, Fitted, Between, Framed}
 use Rattle.adjust.proofs.Lists.{Fit, fit_head, fit_tail, fitted_legs, strict_legs}
@@ -105,6 +107,16 @@ module _ (start end : ℤ) (ss : List Section) (e : figures_fit start end ss ≡
 
 -- what is asked where figures fit, by the machine's heights
 pub ruleset fits = (quarters_in, fit_between, fit_fitted, to_z-of_z)
+
+-- ---- what is answered of figures that fit, and of those that do not: two laws of their own
+
+pub totals_by_lem : (start end : ℤ) (ss : List Section) {t : Bool} → figures_fit start end ss ≡ t → line_totals start end ss ≡ cond t (Some (totals quarters start end ss)) None
+unfolding line_totals
+totals_by_lem start end ss e = ap (λ (t : Bool). cond t (Some (totals quarters start end ss)) None) e
+
+pub figures_by : (o : Opening) (end : ℤ) (ss : List Section) {t : Bool} → figures_fit o.start.height end ss ≡ t → line_figures o end ss ≡ cond t (Some (adjusted_of (closing o end ss))) None
+unfolding line_figures
+figures_by o end ss e = ap (λ (t : Bool). cond t (Some (adjusted_of (closing o end ss))) None) e
 
 -- ---- an adjustment that is not refused
 

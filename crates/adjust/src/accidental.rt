@@ -9,6 +9,8 @@ use super::terms::Terms;
 use super::{Section, Verdict};
 use roots::rounding::round_half_even;
 
+// The bounds stand in each contract: a slice of sections that is lent has no type that carries them.
+
 // t of a section. `squared` is the square of the parts of half a millimetre that D is in: 1 for half mm.
 fn accidental(squared: i64, x: &Section) -> i64
     requires { OneTo most_squared squared × (nat_abs x.now.discrepancy ≤ most_d) × LegBounds x.now }

@@ -44,7 +44,7 @@ fn sections_from(legs: &[Leg]) -> [Section; 64]
 }
 
 // The adjusted heights of the lent legs between two known heights, one a leg, into the lent list; the answer is document 01's number, 0 for a
-// call that is taken. More than 64 legs are refused before they are read.
+// call that is taken. More than 64 legs are refused before they are read. A number and no `Result`: C has the answer so.
 #[tactic(auto, using(crate::proofs::Legs::legs))]
 pub fn level_adjust(legs: &[Leg], start: i64, end: i64, heights: &mut [i64]) -> u8
     ensures number { result ≡ adjust_refusal start end (leg_sections legs.now) (length heights.old) }

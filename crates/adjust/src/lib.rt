@@ -50,6 +50,7 @@ pub struct Section {
 }
 
 // The sections of a line in an array. Places from count on do not count.
+// A count beside an array, as there is no heap. No type that holds at most 64: it would take fewer records than before, and one with another count is refused with 20.
 #[derive(Clone, Copy)]
 pub struct Sections {
     pub count: usize,

@@ -40,7 +40,7 @@ pub(crate) fn any_out_of_range(sections: &[Section]) -> bool
     sections.iter().any(|x| !x.is_in_range())
 }
 
-// Whether any is outside the wider one.
+// Whether any is outside the wider one. Apart from `misfit`, in whose body the tactics do not join what `any` answers with the count.
 fn any_unfit(sections: &[Section]) -> bool
     ensures { result ≡ list_any (λ (x : Section). not (section_fits x)) sections.now }
 {

@@ -40,8 +40,5 @@ pub(crate) fn totals_by(terms: Terms, t: Totals) -> Totals
     if terms.tied {
         return t;
     }
-    Totals {
-        closure: 0,
-        distance: t.distance,
-    }
+    Totals { closure: 0, ..t }
 }
