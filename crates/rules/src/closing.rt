@@ -51,7 +51,7 @@ fn check_totals(terms: &Terms, shut: bool, t: &Totals) -> Result<(), Refusal>
     Ok(())
 }
 
-// The same of a line with sections, up to the known height at its end. There are totals, since the figures fit.
+// The same of a line with sections, up to the known height at its end. There are totals, since the figures fit. `shut` is lent beside `standing`: to find it walks the sections.
 fn check_line(standing: &Standing, end: i64, shut: bool) -> Result<(), Refusal>
     requires fit { figures_fit standing.now.line.now.opening.start.height end standing.now.sections.now ≡ true }
     requires shut { shut ≡ is_shut (standing_of standing.now) }

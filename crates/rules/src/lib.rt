@@ -18,7 +18,7 @@ pub enum Stage {
 }
 
 // A run: how many stations, G in half mm, s in dm, the sum of d in dm, and the constant of the last fore staff, 0 for none.
-// `last` is no Option: where the count is 0 nothing asks for it.
+// `last` is no Option: 0 is no staff's constant, so that it can say that there is none.
 #[derive(Clone, Copy, Default, PartialEq, Eq)]
 pub struct Run {
     pub count: usize,
@@ -35,7 +35,7 @@ pub struct Outward {
     pub run: Run,
 }
 
-// All of a line but its finished sections. The end height is 0 until the line is closed, and on a spur: no Option, since the stage and the class say which.
+// All of a line but its finished sections. The end height is 0 until the line is closed, and on a spur: no Option, since the stage and the class say which, and before the line is closed the test of 20 alone looks at it.
 #[derive(Clone, Copy)]
 pub struct Line {
     pub stage: Stage,

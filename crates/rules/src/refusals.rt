@@ -19,7 +19,7 @@ use station::Figures;
 fn number_in_range(n: i64) -> bool
     ensures { result ≡ number_in_range n }
 {
-    1 <= n && n <= 9999
+    (1..=9999).contains(&n)
 }
 
 // Whether a benchmark can have this number.

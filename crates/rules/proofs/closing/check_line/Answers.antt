@@ -1,7 +1,7 @@
 -- `check_line` meets its contract: where the figures fit there are totals, W and L.
 use Rattle.std.specs.declared.option.Option.{Option}
 use Rattle.std.specs.Prelude.{Some, None}
-use Rattle.std.proofs.Common.{◌≡◌, ap, ◌∙◌, Bool, true, false, cond, List, ℤ, w64, rules}
+use Rattle.std.proofs.Common.{◌≡◌, ap, ◌∙◌, Bool, true, false, List, ℤ, w64, rules}
 use mir.Val.{SFits}
 use Rattle.numbers.specs.Tables.{first_of}
 use Rattle.numbers.proofs.Tests.{no_true}
@@ -10,6 +10,7 @@ use Rattle.adjust.specs.declared.Section.{Section}
 use Rattle.adjust.specs.declared.Totals.{Totals}
 use Rattle.adjust.specs.Line.{quarters, totals}
 use Rattle.adjust.specs.Frames.{figures_fit, line_totals}
+use Rattle.adjust.proofs.Sized.{totals_by_lem}
 use Rattle.rules.specs.Rules.{total_tests}
 use Rattle.rules.proofs.closing.check_line.Goals as goal
 
@@ -24,8 +25,7 @@ some None = false
 
 totalled : (start end : ℤ) (ss : List Section) → SFits w64 start → SFits w64 end → figures_fit start end ss ≡ true
     → line_totals (stored start) (stored end) ss ≡ Some (totals quarters start end ss)
-unfolding line_totals
-totalled start end ss f g e = stored_both (λ x y. line_totals x y ss) f g ∙ ap (λ (t : Bool). cond t (Some (totals quarters start end ss)) None) e
+totalled start end ss f g e = stored_both (λ x y. line_totals x y ss) f g ∙ totals_by_lem start end ss e
 
 pub returns-in-Some : goal.returns-in-Some
 returns-in-Some c =
