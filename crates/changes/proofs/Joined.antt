@@ -35,6 +35,7 @@ use Rattle.rules.specs.Rules.{class_of, instrument_of, broken, input_tests, stat
 use Rattle.rules.specs.code.Bounds.{SmallRuns}
 use Rattle.rules.specs.code.Opened.{class_named, spur_named, instrument_named, start_refusal, named_refusal}
 use Rattle.rules.proofs.Tables.{tables, line_unbroken}
+use Rattle.rules.proofs.Opened.{line_class, instrument, line_refusal, spur_refusal}
 use Rattle.rules.proofs.Unbroken.{Unbroken, unbroken, small_runs}
 use Rattle.changes.specs.declared.Change.{Change}
 use Rattle.changes.specs.Changes.{effect_of, opened, Decides}
@@ -63,37 +64,23 @@ module _ (b : Book) (number height : ℤ) where
   nothing P (Ok x) e = absurd (omega (arith, e))
   nothing P (Err x) e = tt
 
-  by_names : (s t : Bool) (y : Class) (z : Instrument) (r : Result Change Refusal) → Opens (cond s (Some y) None) (cond t (Some z) None) r
-      → (number_of r ≡ cond (not (s && t)) 3 (start_refusal (state_of b) number height)) × IfOk r (λ (x : Change). x ≡ opened y z number height)
-  by_names true true y z r h = h
-  by_names true false y z r h = (h.0, nothing (λ (x : Change). x ≡ opened y z number height) r h.0)
-  by_names false t y z r h = (h.0, nothing (λ (x : Change). x ≡ opened y z number height) r h.0)
-
-  line_class : (o : ℤ) → class_named o ≡ cond (eq_z o (pos 3) || eq_z o (pos 4)) (Some (class_of o)) None
-  line_class o = go (eq_z o (pos 3)) (eq_z o (pos 4))
-    where
-      go : (a b : Bool) → cond a (Some Third) (cond b (Some Fourth) None) ≡ cond (a || b) (Some (cond a Third Fourth)) None
-      go true b = refl
-      go false true = refl
-      go false false = refl
-
-  instrument : (k : ℤ) → instrument_named k ≡ cond (eq_z k (pos 1) || eq_z k (pos 3)) (Some (instrument_of k)) None
-  instrument k = go (eq_z k (pos 3)) (eq_z k (pos 1))
-    where
-      go : (a b : Bool) → cond a (Some Ds3) (cond b (Some Ds1) None) ≡ cond (b || a) (Some (cond a Ds3 Ds1)) None
-      go true true = refl
-      go true false = refl
-      go false true = refl
-      go false false = refl
+  -- what is taken is of the class and the instrument that are named
+  named : (s t : Bool) (y : Class) (z : Instrument) (r : Result Change Refusal) → Opens (cond s (Some y) None) (cond t (Some z) None) r
+      → IfOk r (λ (x : Change). x ≡ opened y z number height)
+  named true true y z r h = h.1
+  named true false y z r h = nothing (λ (x : Change). x ≡ opened y z number height) r h.0
+  named false t y z r h = nothing (λ (x : Change). x ≡ opened y z number height) r h.0
 
   -- a call c that opens, by what its two numbers name: a class where s, an instrument where t
   opens : (c : Call) (s t : Bool) (class : Class) (z : Instrument) {y : Option Class} {k : Option Instrument} (r : Result Change Refusal)
-      → book_refusal (state_of b) c ≡ cond (not (s && t)) 3 (start_refusal (state_of b) number height)
+      → named_refusal (state_of b) y k number height ≡ book_refusal (state_of b) c
       → effect_of b.line c ≡ opened class z number height
       → y ≡ cond s (Some class) None → k ≡ cond t (Some z) None → Opens y k r → Decides b c r
   opens c s t class z r n e p q h =
-      let d = by_names s t class z r (subst (λ (x : Option Class × Option Instrument). Opens x.0 x.1 r) (λ i. (p i, q i)) h) in
-      record { number = d.0 ∙ sym n; change = changes r d.1 }
+      record {
+        number = h.0 ∙ n;
+        change = changes r (named s t class z r (subst (λ (x : Option Class × Option Instrument). Opens x.0 x.1 r) (λ i. (p i, q i)) h));
+      }
     where
       changes : (r : Result Change Refusal) → IfOk r (λ (x : Change). x ≡ opened class z number height) → IfOk r (λ (x : Change). x ≡ effect_of b.line c)
       changes (Ok x) f = f ∙ sym e
@@ -101,21 +88,27 @@ module _ (b : Book) (number height : ℤ) where
 
   pub opens_line : (o k : ℤ) {y : Option Class} {z : Option Instrument} (r : Result Change Refusal) → y ≡ class_named o → z ≡ instrument_named k → Opens y z r
       → Decides b (open_line o k number height) r
-  unfolding book_refusal effect_of
+  unfolding effect_of
   opens_line o k r p q =
-      opens (open_line o k number height) (eq_z o (pos 3) || eq_z o (pos 4)) (eq_z k (pos 1) || eq_z k (pos 3)) (class_of o) (instrument_of k) r refl refl
-      (p ∙ line_class o) (q ∙ instrument k)
+      opens (open_line o k number height) (eq_z o (pos 3) || eq_z o (pos 4)) (eq_z k (pos 1) || eq_z k (pos 3)) (class_of o) (instrument_of k) r
+      ((λ i. named_refusal (state_of b) (p i) (q i) number height) ∙ line_refusal (state_of b) number height o k) refl (p ∙ line_class o) (q ∙ instrument k)
 
   pub opens_spur : (o k : ℤ) {y : Option Class} {z : Option Instrument} (r : Result Change Refusal) → y ≡ spur_named o → z ≡ instrument_named k → Opens y z r
       → Decides b (open_spur o k number height) r
-  unfolding book_refusal effect_of
+  unfolding effect_of
   opens_spur o k r p q =
-      opens (open_spur o k number height) (eq_z o (pos 4)) (eq_z k (pos 1) || eq_z k (pos 3)) Spur (instrument_of k) r refl refl p (q ∙ instrument k)
+      opens (open_spur o k number height) (eq_z o (pos 4)) (eq_z k (pos 1) || eq_z k (pos 3)) Spur (instrument_of k) r
+      ((λ i. named_refusal (state_of b) (p i) (q i) number height) ∙ spur_refusal (state_of b) number height o k) refl p (q ∙ instrument k)
 
 -- a call of four numbers that fit, as the machine reads them back
 pub opens_as : (b : Book) (call : ℤ → ℤ → ℤ → ℤ → Call) {o k n h : ℤ} {c : Call} {r : Result Change Refusal} → SFits w64 o → SFits w64 k → SFits w64 n → SFits w64 h
     → c ≡ call o k n h → Decides b (call (stored o) (stored k) (stored n) (stored h)) r → Decides b c r
 opens_as b call {r = r} o k n h is d = subst (λ (x : Call). Decides b x r) ((λ i. call (stored_id o i) (stored_id k i) (stored_id n i) (stored_id h i)) ∙ sym is) d
+
+-- ---- the end of a run, of a number that fits, as the machine reads it back: a law of its own, which the tactics find where it is needed
+
+pub end_as : {number : ℤ} → SFits w64 number → end_run (stored number) ≡ end_run number
+end_as n = ap end_run (stored_id n)
 
 -- ---- a station, by what is read
 

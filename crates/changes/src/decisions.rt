@@ -16,7 +16,7 @@ use adjust::terms::Class;
 use records::Refusal;
 use rules::call::Call;
 use rules::closing::check_close;
-use rules::opening::{check_start, class_named, instrument_named, opening_with, spur_named};
+use rules::opening::{check_open, class_named, instrument_named, spur_named};
 use rules::refusals::{check_collimation, check_drop, check_run_end, check_station};
 use rules::{Book, Line};
 use station::Instrument;
@@ -42,10 +42,8 @@ fn open_change(
     ensures number { number_of result ≡ named_refusal (state_of b.now) class instrument number height }
     ensures change { MatchOption class ⊤ (λ y. MatchOption instrument ⊤ (λ z. IfOk result (λ x. x ≡ opened y z number height))) }
 {
-    let class = class.ok_or(Refusal::OrderOrInstrument)?;
-    let instrument = instrument.ok_or(Refusal::OrderOrInstrument)?;
-    check_start(b, number, height)?;
-    Ok(of_line(begun(opening_with(class, instrument, number, height))))
+    let opening = check_open(b, class, instrument, number, height)?;
+    Ok(of_line(begun(opening)))
 }
 
 fn station_change(b: &Book, kb: i64, kf: i64, readings: [[i64; 4]; 2]) -> Result<Change, Refusal>

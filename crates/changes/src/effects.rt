@@ -40,7 +40,7 @@ pub(crate) fn collimated(line: &Line) -> Line
 
 // ---- station
 
-// The line with the present run's sums and a station's.
+// The line with the present run's sums and a station's. The bounds stand in each contract: a book may be handed in with any run, so that no type of a run carries them.
 pub(crate) fn with_station(line: &Line, f: &Figures, kf: i64) -> Line
     requires { SmallRun line.now.present × Small f.now }
     ensures { result ≡ with_runs line.now line.now.waiting (with_station line.now.present f.now kf) }

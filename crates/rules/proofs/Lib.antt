@@ -4,4 +4,5 @@ pub mod Tables
 pub mod Parts
 pub mod Unbroken
 pub mod Last
+pub mod Opened
 pub mod Worked

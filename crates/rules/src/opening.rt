@@ -1,9 +1,9 @@
 // Opening, a line or a spur: what its numbers name, and its refusals.
-ghost use Rattle.std.specs.Prelude.{◌≡◌};
+ghost use Rattle.std.specs.Prelude.{◌≡◌, MatchOption, IfOk, ⊤};
 ghost use Rattle.records.specs.Refusals.{number_of};
 ghost use Rattle.rules.specs.LineState.{state_of};
 ghost use Rattle.rules.specs.Rules.{opening_with};
-ghost use Rattle.rules.specs.code.Opened.{class_named, spur_named, instrument_named, start_refusal};
+ghost use Rattle.rules.specs.code.Opened.{class_named, spur_named, instrument_named, start_refusal, named_refusal};
 
 use super::refusals::check_number;
 use super::standing::Standing;
@@ -34,7 +34,7 @@ pub fn spur_named(order: i64) -> Option<Class>
     }
 }
 
-// 3 for DS3, 1 for DS1 and DS05.
+// 3 for DS3, 1 for DS1 and DS05. No `TryFrom`, so that it answers as `class_named` does, beside which it is called.
 pub fn instrument_named(number: i64) -> Option<Instrument>
     ensures { result ≡ instrument_named number }
 {
@@ -59,7 +59,7 @@ pub fn opening_with(class: Class, instrument: Instrument, number: i64, height: i
 }
 
 // Of the start's number and height, and of the book.
-pub fn check_start(b: &Book, number: i64, height: i64) -> Result<(), Refusal>
+fn check_start(b: &Book, number: i64, height: i64) -> Result<(), Refusal>
     ensures { number_of result ≡ start_refusal (state_of b.now) number height }
 {
     check_number(number)?;
@@ -70,4 +70,21 @@ pub fn check_start(b: &Book, number: i64, height: i64) -> Result<(), Refusal>
         return Err(Refusal::Stage);
     }
     Ok(())
+}
+
+// Of opening a line or a spur, of the class and with the instrument that the call's numbers name. Either is none where they name none.
+pub fn check_open(
+    b: &Book,
+    class: Option<Class>,
+    instrument: Option<Instrument>,
+    number: i64,
+    height: i64,
+) -> Result<Opening, Refusal>
+    ensures number { number_of result ≡ named_refusal (state_of b.now) class instrument number height }
+    ensures opening { MatchOption class ⊤ (λ y. MatchOption instrument ⊤ (λ z. IfOk result (λ o. o ≡ opening_with y z number height))) }
+{
+    let class = class.ok_or(Refusal::OrderOrInstrument)?;
+    let instrument = instrument.ok_or(Refusal::OrderOrInstrument)?;
+    check_start(b, number, height)?;
+    Ok(opening_with(class, instrument, number, height))
 }
