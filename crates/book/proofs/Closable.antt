@@ -51,9 +51,13 @@ module _ (b : Book) where
       let test = book_fails (state_of b) (close_spur number) e in
       in_range (pos 0) (test 20) (or_r (not (eqb b.line.present.count 0) || is_return b.line.waiting) (is_empty ss) (test 33)) refl
 
-  -- so the book that it left has figures
-  pub closing_fits : (number : ℤ) (end : Option ℤ) {r : Outcome (Unit {0})} → Answers b (closing_on number end) r → IfOk r.answer (λ _. Fit (state_of r.book))
-  closing_fits number end {r} h = go r.answer h.number
+  -- of END, as the documents name it: a law of its own
+  pub closing_fits : (number end : ℤ) → book_refusal (state_of b) (close_line number end) ≡ 0 → figures_fit b.line.opening.start.height end ss ≡ true
+  closing_fits number end e = closed_taken number (Some end) e
+
+  -- so the book that a closing left has figures
+  pub closed_answer_fits : (number : ℤ) (end : Option ℤ) {r : Outcome (Unit {0})} → Answers b (closing_on number end) r → IfOk r.answer (λ _. Fit (state_of r.book))
+  closed_answer_fits number end {r} h = go r.answer h.number
     where
       go : (a : Result (Unit {0}) Refusal) → number_of a ≡ book_refusal (state_of b) (closing_on number end) → IfOk a (λ _. Fit (state_of r.book))
       go (Ok x) n =

@@ -29,7 +29,7 @@ use Rattle.rules.specs.declared.Book.{Book}
 use Rattle.rules.specs.LineState.{LineState, state_of, book_with, is_fresh, is_return, outward_or_return, no_run, one_way, both_ways}
 use Rattle.rules.specs.declared.call.Call.{Call}
 use Rattle.rules.specs.declared.call.Call.TheVariants.{OpenLine as open_line, Station as station, EndRun as end_run, DropRun as drop_run, DropSection as drop_section, CloseLine as close_line, OpenSpur as open_spur, CloseSpur as close_spur, Collimation as collimation}
-use Rattle.rules.specs.Rules.{with_runs, with_section, figures_tests, book_tests, book_refusal, taken}
+use Rattle.rules.specs.Rules.{with_runs, with_section, book_tests, book_refusal, taken}
 use Rattle.rules.proofs.Tables.{book_fails, line_unbroken}
 use Rattle.rules.proofs.Unbroken.{SmallWaiting, fresh_none}
 use Rattle.changes.specs.declared.Change.{Change}
@@ -37,7 +37,7 @@ use Rattle.changes.specs.Changes as Changes
 use Rattle.changes.specs.Changes.{first, effect_of, Decides, changed}
 use Rattle.changes.proofs.Joined.{book_unbroken}
 use Rattle.book.specs.declared.Outcome.{Outcome}
-use Rattle.book.specs.Calls.{book_after, Answers, closing_of, closed_by, Closes, figures_refusal, Tells}
+use Rattle.book.specs.Calls.{book_after, Answers, closing_of, closed_by, Closes}
 use Rattle.book.specs.code.Made.{Makes}
 
 -- ---- the book with the change made is the book that the call leaves
@@ -164,10 +164,3 @@ closing_made b c =
     let n = book_refusal (state_of b) c in
     let f : LineFigures = adjusted_of (closed_by b c) in
     (record { answer = answered n f; book = book_after b c }, record { number = given (state_of b) c f; figures = value_answered n f; book = refl })
-
-pub figures_made : (b : Book) → (r : Result LineFigures Refusal) × Tells b r
-figures_made b =
-    let n = figures_refusal b in
-    let f : LineFigures = adjusted_of (closing_of (state_of b)) in
-    let known : each_number is_answer (figures_tests (state_of b)) ≡ true = search rules in
-    (answered n f, record { number = number_answered n f (first_each is_answer (figures_tests (state_of b)) known refl); figures = value_answered n f })

@@ -47,6 +47,7 @@ pub fn take(b: Book, call: Call) -> Outcome<()>
 }
 
 // Open the line: order 3 or 4, instrument 3 for DS3 or 1 for DS1 and DS05, the start's number and its height in mm.
+// A function of its own, and so of each call below, also where two make much the same: the documents name each call.
 pub fn open(b: Book, order: i64, instrument: i64, number: i64, height: i64) -> Outcome<()>
     ensures { Answers b (open_line order instrument number height) result }
 {
@@ -128,10 +129,7 @@ fn closed(taken: Outcome<()>) -> Outcome<LineFigures>
     ensures book { result.book ≡ taken.book }
 {
     let book = taken.book;
-    let answer = match taken.answer {
-        Ok(()) => figures_that_fit(&book),
-        Err(refusal) => Err(refusal),
-    };
+    let answer = taken.answer.and_then(|()| figures_that_fit(&book));
     Outcome { answer, book }
 }
 

@@ -5,11 +5,11 @@ use Rattle.rules.specs.declared.call.Call.{Call}
 use Rattle.rules.specs.declared.call.Call.TheVariants.{CloseSpur as close_spur}
 use Rattle.book.specs.Calls.{Closes}
 use Rattle.book.proofs.Joined.{closes}
-use Rattle.book.proofs.Closable.{closing_fits}
+use Rattle.book.proofs.Closable.{closed_answer_fits}
 use Rattle.book.proofs.calls.close_spur.Goals as goal
 
 pub closed-requires : goal.closed-requires
-closed-requires c = closing_fits c.args.b (stored c.args.number) None c.take.ensures
+closed-requires c = closed_answer_fits c.args.b (stored c.args.number) None c.take.ensures
 
 pub returns : goal.returns
 returns c =
