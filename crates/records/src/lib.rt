@@ -28,6 +28,7 @@ pub enum Tag {
 }
 
 // A record: its tag and its numbers. Places past the numbers that its tag has are not looked at.
+// No enum with its numbers in the variants: it is what a line of a text or an entry of a list says before it is a call, and the call has the arguments.
 #[derive(Clone, Copy, PartialEq, Eq)]
 pub struct Record {
     pub tag: Tag,
