@@ -86,24 +86,27 @@ module _ (b : Book) (number height : ℤ) where
       changes (Ok x) f = f ∙ sym e
       changes (Err x) f = tt
 
-  pub opens_line : (o k : ℤ) {y : Option Class} {z : Option Instrument} (r : Result Change Refusal) → y ≡ class_named o → z ≡ instrument_named k → Opens y z r
-      → Decides b (open_line o k number height) r
+  pub opens_line : (o k : ℤ) (r : Result Change Refusal) → Opens (class_named o) (instrument_named k) r → Decides b (open_line o k number height) r
   unfolding effect_of
-  opens_line o k r p q =
+  opens_line o k r h =
       opens (open_line o k number height) (eq_z o (pos 3) || eq_z o (pos 4)) (eq_z k (pos 1) || eq_z k (pos 3)) (class_of o) (instrument_of k) r
-      ((λ i. named_refusal (state_of b) (p i) (q i) number height) ∙ line_refusal (state_of b) number height o k) refl (p ∙ line_class o) (q ∙ instrument k)
+      (line_refusal (state_of b) number height o k) refl (line_class o) (instrument k) h
 
-  pub opens_spur : (o k : ℤ) {y : Option Class} {z : Option Instrument} (r : Result Change Refusal) → y ≡ spur_named o → z ≡ instrument_named k → Opens y z r
-      → Decides b (open_spur o k number height) r
+  pub opens_spur : (o k : ℤ) (r : Result Change Refusal) → Opens (spur_named o) (instrument_named k) r → Decides b (open_spur o k number height) r
   unfolding effect_of
-  opens_spur o k r p q =
+  opens_spur o k r h =
       opens (open_spur o k number height) (eq_z o (pos 4)) (eq_z k (pos 1) || eq_z k (pos 3)) Spur (instrument_of k) r
-      ((λ i. named_refusal (state_of b) (p i) (q i) number height) ∙ spur_refusal (state_of b) number height o k) refl p (q ∙ instrument k)
+      (spur_refusal (state_of b) number height o k) refl refl (instrument k) h
 
--- a call of four numbers that fit, as the machine reads them back
-pub opens_as : (b : Book) (call : ℤ → ℤ → ℤ → ℤ → Call) {o k n h : ℤ} {c : Call} {r : Result Change Refusal} → SFits w64 o → SFits w64 k → SFits w64 n → SFits w64 h
-    → c ≡ call o k n h → Decides b (call (stored o) (stored k) (stored n) (stored h)) r → Decides b c r
-opens_as b call {r = r} o k n h is d = subst (λ (x : Call). Decides b x r) ((λ i. call (stored_id o i) (stored_id k i) (stored_id n i) (stored_id h i)) ∙ sym is) d
+-- either call c of four numbers that fit, as the machine reads them back, by its law above
+pub opens_as : (b : Book) (call : ℤ → ℤ → ℤ → ℤ → Call) (named : ℤ → Option Class)
+    → ((number height o k : ℤ) (r : Result Change Refusal) → Opens b number height (named o) (instrument_named k) r → Decides b (call o k number height) r)
+    → {o k n h : ℤ} {c : Call} {r : Result Change Refusal} {y : Option Class} {z : Option Instrument} → SFits w64 o → SFits w64 k → SFits w64 n → SFits w64 h
+    → c ≡ call o k n h → y ≡ named (stored o) → z ≡ instrument_named (stored k) → Opens b (stored n) (stored h) y z r → Decides b c r
+opens_as b call named law {o = order} {k = kind} {n = number} {h = height} {r = r} o k n h is p q d =
+    subst (λ (x : Call). Decides b x r) ((λ i. call (stored_id o i) (stored_id k i) (stored_id n i) (stored_id h i)) ∙ sym is)
+    (law (stored number) (stored height) (stored order) (stored kind) r
+    (subst (λ (x : Option Class × Option Instrument). Opens b (stored number) (stored height) x.0 x.1 r) (λ i. (p i, q i)) d))
 
 -- ---- the end of a run, of a number that fits, as the machine reads it back: a law of its own, which the tactics find where it is needed
 
