@@ -1,4 +1,5 @@
 // The accidental error: t of a section, T of a line, and the verdict.
+// The bounds stand in each contract: a slice of sections that is lent has no type that carries them.
 ghost use Rattle.std.specs.Prelude.{◌≡◌, map, ◌≤◌, nat_abs};
 ghost use Rattle.numbers.specs.Numbers.{sum};
 ghost use Rattle.adjust.specs.Sizes.{most_d, most_allowed, most_squared};
@@ -8,8 +9,6 @@ ghost use Rattle.adjust.specs.code.Bounds.{OneTo, Fitted, LegBounds};
 use super::terms::Terms;
 use super::{Section, Verdict};
 use roots::rounding::round_half_even;
-
-// The bounds stand in each contract: a slice of sections that is lent has no type that carries them.
 
 // t of a section. `squared` is the square of the parts of half a millimetre that D is in: 1 for half mm.
 fn accidental(squared: i64, x: &Section) -> i64

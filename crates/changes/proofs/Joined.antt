@@ -1,6 +1,6 @@
 -- From what the parts of a call answer to what it makes of a book: an opening by what its numbers name, a station by what is read, and a call that is taken finds the line unbroken.
 use mathlib.Core.Path.{◌≡◌, refl, sym, ap, subst, ◌∙◌}
-use mathlib.Core.Bool.{Bool, true, false, not, cond, ◌&&◌, ◌||◌}
+use mathlib.Core.Bool.{Bool, true, false, cond, ◌||◌}
 use mathlib.Core.List.{List, ◌∷◌}
 use Prim.Native.Nat.{ℕ}
 use native.Mathlib.Omega.{arith}
@@ -19,12 +19,11 @@ use Rattle.numbers.proofs.Tables.{first_append, zero_cond, nonzero_cond}
 use Rattle.records.specs.declared.Refusal.{Refusal}
 use Rattle.records.specs.Refusals.{refusal_number, number_of}
 use Rattle.station.specs.declared.Instrument.{Instrument}
-use Rattle.station.specs.declared.Instrument.TheVariants.{Ds3, Ds1}
 use Rattle.station.specs.declared.Figures.{Figures}
 use Rattle.station.specs.Station.{station_of, figures_of, reading_refusal, Reads}
 use Rattle.station.proofs.Answered.{of_station, of_refused}
 use Rattle.adjust.specs.declared.terms.Class.{Class}
-use Rattle.adjust.specs.declared.terms.Class.TheVariants.{Third, Fourth, Spur}
+use Rattle.adjust.specs.declared.terms.Class.TheVariants.{Spur}
 use Rattle.adjust.specs.Sections.{sections_of}
 use Rattle.adjust.proofs.Holding.{sections_count}
 use Rattle.rules.specs.declared.Book.{Book}
@@ -33,7 +32,7 @@ use Rattle.rules.specs.declared.call.Call.{Call}
 use Rattle.rules.specs.declared.call.Call.TheVariants.{OpenLine as open_line, OpenSpur as open_spur, Station as station, EndRun as end_run}
 use Rattle.rules.specs.Rules.{class_of, instrument_of, broken, input_tests, state_tests, book_station_tests, book_refusal}
 use Rattle.rules.specs.code.Bounds.{SmallRuns}
-use Rattle.rules.specs.code.Opened.{class_named, spur_named, instrument_named, start_refusal, named_refusal}
+use Rattle.rules.specs.code.Opened.{class_named, spur_named, instrument_named, named_refusal}
 use Rattle.rules.proofs.Tables.{tables, line_unbroken}
 use Rattle.rules.proofs.Opened.{line_class, instrument, line_refusal, spur_refusal}
 use Rattle.rules.proofs.Unbroken.{Unbroken, unbroken, small_runs}
