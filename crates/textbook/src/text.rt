@@ -76,6 +76,6 @@ pub(crate) fn read_from(text: &[u8], first: usize, state: &mut State)
             &mut state.book,
             &mut state.refusals,
         ),
-        _ => state.refusals[1] = 1,
+        _ => state.refusals[1] = Refusal::NotARecord.number(),
     }
 }
