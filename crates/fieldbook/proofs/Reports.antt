@@ -179,6 +179,10 @@ module _ (t d : List ℕ) where
       by_test (too_long t) (λ b. refusal_number x ≡ cond b 9 0 → first_of ((9, b) ∷ (10, too_small d) ∷ []) ≡ refusal_number x) (λ b h. sym h)
       (λ b h. absurd (not_zero x h)) e
 
+  pub too_long_lem : most_text < length t → text_refusal t d ≡ 9
+  unfolding text_refusal
+  too_long_lem h = rw (lt-ltb most_text (length t) h)
+
   pub too_small_lem : length t ≤ most_text → length d < 65536 → text_refusal t d ≡ 10
   unfolding text_refusal
   too_small_lem h g = rw (le-ltb most_text (length t) h, lt-ltb (length d) 65536 g)
@@ -203,8 +207,9 @@ module _ (t d : List ℕ) where
       (λ b e. absurd (omega (arith, e))) (λ b e. refl)
 
   -- of one that is refused for its length alone, that refusal
-  pub prints_refusal : (x : Refusal) → 65536 ≤ length d → refusal_number x ≡ text_refusal t d → ref_line (record { line = 0; number = 9 }) ≡ printed_for t
+  pub prints_refusal : (x : Refusal) → 65536 ≤ length d → refusal_number x ≡ text_refusal t d → ref_line (record { line = 0; number = refusal_number x }) ≡ printed_for t
   unfolding text_refusal
   prints_refusal x h =
-      by_test (too_long t) (λ b. refusal_number x ≡ first_of ((9, b) ∷ (10, too_small d) ∷ []) → ref_line (record { line = 0; number = 9 }) ≡ cond b (ref_line (record { line = 0; number = 9 })) (report t)) (λ b e. refl)
+      by_test (too_long t) (λ b. refusal_number x ≡ first_of ((9, b) ∷ (10, too_small d) ∷ []) → ref_line (record { line = 0; number = refusal_number x }) ≡ cond b (ref_line (record { line = 0; number = 9 })) (report t))
+      (λ b e. ap (λ (n : ℕ). ref_line (record { line = 0; number = n })) e)
       (λ b e. absurd (not_zero x (e ∙ ap (λ (s : Bool). cond s 10 0) (le-ltb (length d) 65536 h))))

@@ -25,6 +25,7 @@ pub fn reduce_text(text: &[u8], report: &mut [u8]) -> Result<usize, Refusal>
 }
 
 // What the program prints of what it read, into a buffer of its own: the length of the part to print. `read` bytes of `input` are what it read; none where a read failed.
+// The buffer stands beside how much of it was read, and is not the part itself: memory is fixed, and the contract is of any count.
 pub fn print_input(input: &[u8; 65269], read: Option<usize>, out: &mut [u8; 65536]) -> usize
     ensures value { result ≡ length (printed_of input.now read) }
     ensures out_after { out.new ≡ put_at out.old 0 (printed_of input.now read) }
@@ -33,11 +34,11 @@ pub fn print_input(input: &[u8; 65269], read: Option<usize>, out: &mut [u8; 6553
         return 0;
     };
     if 65268 < count {
-        return printing::put_refusal(out, 0, 9);
+        return printing::put_refusal(out, 0, Refusal::TextTooLong.number());
     }
     match reduce_text(&input[..count], out) {
         Ok(length) => length,
-        Err(_) => printing::put_refusal(out, 0, 9),
+        Err(refusal) => printing::put_refusal(out, 0, refusal.number()),
     }
 }
 

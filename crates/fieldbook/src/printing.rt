@@ -37,6 +37,7 @@ fn put_refusals(buf: &mut [u8], numbers: &[u8; 778]) -> usize
     requires { 65352 ≤ length buf.old }
     ensures { Puts (joined (refusal_lines 0 numbers.now)) buf.old buf.new result }
 {
+    // A running index: the next part of the buffer begins where the last one ended, and how long that was is known only then.
     let mut at = 0;
     for (line, number) in numbers.iter().enumerate() {
         if *number != 0 {
@@ -58,7 +59,7 @@ fn put_open(buf: &mut [u8], sections: usize) -> usize
 fn shown_t(t: i64) -> i64
     ensures { result ≡ shown_t t }
 {
-    if 99999999 < t { 99999999 } else { t }
+    t.min(99999999)
 }
 
 fn put_closed(buf: &mut [u8], s: &Summary) -> usize
@@ -84,6 +85,7 @@ fn put_points(buf: &mut [u8], points: &[Point]) -> usize
     requires { (84 * length points.now ≤ length buf.old) × points_fit points.now }
     ensures { Puts (joined (map point_line points.now)) buf.old buf.new result }
 {
+    // A running index: the next part of the buffer begins where `put_point` says that the last one ended.
     let mut at = 0;
     for point in points {
         at += put_point(&mut buf[at..], point);
