@@ -2,17 +2,18 @@
 use mathlib.Core.Path.{◌≡◌, refl, sym, ap, subst, ◌∙◌}
 use mathlib.Core.Bool.{not, cond}
 use mathlib.Core.List.{List, [], ◌∷◌, ◌++◌}
-use Prim.Native.Nat.{ℕ, zero, suc, ◌+◌, ◌/◌, ◌%◌, ◌≤◌, ◌<◌, min}
+use Prim.Native.Nat.{ℕ, zero, suc, ◌+◌, ◌-◌, ◌/◌, ◌%◌, ◌≤◌, ◌<◌, min}
 use native.Mathlib.Omega.{arith}
 use borrow.Author.Tests.{le-leb}
 use lib.Dec.{eqb, leb}
 use lib.ListN.{length, set, take, drop, length-append, length-take}
 use lib.Seq.{take_all, sets}
+use borrow.Rule.Slice.PartMut.{put_mid}
 use lib.IntN.{ℤ}
 use Rattle.std.proofs.Common.{inl, inr, Err}
 use Rattle.std.proofs.lemmas.Bool.{cases_lt}
-use Rattle.std.proofs.lemmas.List.{nil_from_length}
-use Rattle.numbers.specs.Numbers.{written}
+use Rattle.std.proofs.lemmas.List.{nil_from_length, take_min}
+use Rattle.numbers.specs.Numbers.{put_at, written}
 use Rattle.numbers.proofs.Arrays.{chunk_parts, written_none}
 use Rattle.records.specs.declared.Refusal.TheVariants.{NotARecord}
 use Rattle.adjust.specs.Sections.{holding}
@@ -86,6 +87,38 @@ module _ {A : Type 0} where
   stores_written [] ys = sym (written_none ys)
   stores_written (x ∷ xs) [] = stores_none 1 xs
   stores_written (x ∷ xs) (y ∷ ys) = stores_later x ys 0 xs ∙ ap (λ (l : List A). x ∷ l) (stores_written xs ys)
+
+  -- stores behind the last place change nothing
+  stores_behind : (ys : List A) (i : ℕ) (xs : List A) → length ys ≤ i → sets ys i xs ≡ ys
+  stores_behind [] i xs h = stores_none i xs
+  stores_behind (y ∷ ys) zero xs h = absurd (omega arith)
+  stores_behind (y ∷ ys) (suc i) xs h = stores_later y ys i xs ∙ ap (λ (l : List A). y ∷ l) (stores_behind ys i xs (omega arith))
+
+  stores_within : (ys : List A) (i : ℕ) (xs : List A) → i ≤ length ys → sets ys i xs ≡ put_at ys i (take (length ys - i) xs)
+  unfolding put_at
+  stores_within ys zero xs h = let all : length ys ≡ length ys - 0 = omega arith in stores_written xs ys ∙ ap (λ (k : ℕ). put_at ys 0 (take k xs)) all
+  stores_within [] (suc i) xs h = absurd (omega arith)
+  stores_within (y ∷ ys) (suc i) xs h =
+      let left : length ys - i ≡ suc (length ys) - suc i = omega arith in
+      stores_later y ys i xs ∙ ap (λ (l : List A). y ∷ l) (stores_within ys i xs (omega arith)) ∙ ap (λ (k : ℕ). y ∷ put_at ys i (take k xs)) left
+
+  -- from an index on as many as there are places for, copied at once
+  pub stores_part : (ys : List A) (i at n : ℕ) (xs : List A) → at ≡ min i (length ys) → n ≡ min (length xs) (length ys - at) → put_mid at (at + n - at) ys (take n xs) ≡ sets ys i xs
+  unfolding put_at
+  stores_part ys i at n xs e f =
+      ap (λ (k : ℕ). take at ys ++ (take n xs ++ drop k (drop at ys))) long
+      ∙ ap (put_at ys at) (ap (λ (k : ℕ). take k xs) least ∙ take_min (length ys - at) xs)
+      ∙ sym (stores_within ys at xs (omega (arith, e)))
+      ∙ elim (cases_lt i (length ys)) [
+        | inl short ↦ let p : at ≡ i = omega (arith, e) in ap (λ (k : ℕ). sets ys k xs) p
+        | inr beyond ↦ stores_behind ys at xs (omega (arith, e)) ∙ sym (stores_behind ys i xs beyond)
+      ]
+    where
+      least : n ≡ min (length ys - at) (length xs)
+      least = omega (arith, f)
+
+      long : at + n - at ≡ length (take n xs)
+      long = omega (arith, f, length-take n xs)
 
 -- ---- the figures of a book
 

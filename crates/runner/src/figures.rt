@@ -8,16 +8,14 @@ use adjust::{LineFigures, Point, Summary};
 use book::calls;
 use rules::{Book, Run};
 
-// Figures into their places from place `at` on, as far as there are places. (Of writes through `iter_mut().skip(at).zip(..)` a proof knows no element.)
+// Figures into their places from place `at` on, as far as there are places.
 fn put(figures: &[i64], list: &mut [i64], at: usize)
     requires { at ≤ 270 }
     ensures { list.new ≡ sets list.old at figures.now }
 {
-    for (k, &figure) in figures.iter().enumerate() {
-        if at + k < list.len() {
-            list[at + k] = figure;
-        }
-    }
+    let at = at.min(list.len());
+    let places = figures.len().min(list.len() - at);
+    list[at..at + places].copy_from_slice(&figures[..places]);
 }
 
 // The figures of the line of a closed book, and zeros of another.

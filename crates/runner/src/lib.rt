@@ -16,7 +16,7 @@ use rules::call::Call;
 
 mod figures;
 
-// The tag of a kind.
+// The tag of a kind. No `TryFrom`: the kinds are this crate's, and neither `i64` nor the tag is.
 #[tactic(auto, unfolding(crate::specs::Calls::tag_of))]
 fn tag_of(number: i64) -> Option<Tag>
     ensures { result ≡ tag_of number }
@@ -46,7 +46,7 @@ fn first_record(list: &[i64]) -> Result<Record, Refusal>
     Ok(Record { tag, values })
 }
 
-// The first entry of a list, taken of the book in its place. Like a text's line but for the parser, in a crate that knows no texts.
+// The first entry of a list, taken of the book in its place. Two lines as those that take a text's line, but for the parser, in a crate that knows no texts.
 fn take_first(book: &mut Book, list: &[i64]) -> Result<(), Refusal>
     ensures number { number_of result ≡ entry_number book.old (first_entry list.now) }
     ensures book { book.new ≡ entry_book book.old (first_entry list.now) }
