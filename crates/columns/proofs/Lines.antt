@@ -1,6 +1,6 @@
 -- Lines: how many columns their fields take, that a line has 84 bytes, and what a loop over its numbers has left.
 use mathlib.Core.Path.{◌≡◌, refl, sym, ap, ◌∙◌}
-use mathlib.Core.Bool.{Bool, true, false, cond}
+use mathlib.Core.Bool.{Bool, true, false, cond, ◌&&◌}
 use mathlib.Core.List.{List, [], ◌∷◌, ◌++◌, append_assoc}
 use Prim.Native.Nat.{ℕ, zero, suc, ◌+◌, ◌-◌, ◌*◌, ◌^◌, ◌≤◌, ◌<◌}
 use native.Mathlib.Omega.{arith}
@@ -10,6 +10,7 @@ use lib.IntN.{ℤ, pos, neg_ℤ}
 use lib.Signed.{lt_z}
 use lib.ListN.{length, take, drop, get_or, replicate, length-append, length-drop}
 use lib.Seq.{take_all, drop-drop, take-append-le, drop-append-le}
+use Rattle.std.specs.List.{list_all, enumerate_from}
 use Rattle.numbers.specs.Numbers.{put_at}
 use Rattle.numbers.proofs.Tests.{by_test, is_false}
 use Rattle.numbers.proofs.Parts.{ints, pos_part, neg_part, parts_abs, test_ge}
@@ -74,6 +75,21 @@ height_fits z h k =
     by_test (lt_z z (neg_ℤ (pos 9999999))) (λ t. fits_in (cond t 16 8) z ≡ true)
     (λ t. fits_within 15 z (omega arith) (omega arith) k)
     (λ t. fits_within 7 z (omega arith) h (omega (ints, test_ge {a = z} {b = neg_ℤ (pos 9999999)} (is_false t), parts_abs z)))
+
+-- ---- the numbers with their places
+
+-- whether number p.0 of n, which is p.1, fits its field
+abbrev pub fits_at : Bool → ℕ → ℕ × ℤ → Bool
+fits_at wide n p = fits_in (width_of wide (n - (p.0 + 1))) p.1
+
+-- all fit, from place i on
+pub fit_places : (wide : Bool) (zs : List ℤ) (n i : ℕ) → n ≡ i + length zs → list_all (fits_at wide n) (enumerate_from i zs) ≡ all_fit wide zs
+unfolding all_fit
+fit_places wide [] n i h = refl
+fit_places wide (z ∷ zs) n i h =
+    let after : n - (i + 1) ≡ length zs = omega (arith, h) in
+    (λ j. fits_in (width_of wide (after j)) z && fit_places wide zs n (i + 1) (omega (arith, h)) j)
+    ∙ by_test (fits_in (width_of wide (length zs)) z) (λ t. (t && all_fit wide zs) ≡ cond t (all_fit wide zs) false) (λ t. refl) (λ t. refl)
 
 -- ---- a turn of a loop over the numbers
 

@@ -41,8 +41,6 @@ pub ruleset width_of = (width_before)
 
 pub ruleset columns_of = (columns_narrow, columns_wide, columns_none)
 
-pub ruleset all_fit = (fit_turn, drop_of_length-le, to_z-of_z)
-
 pub ruleset line_fits = (columns_range, fits_not, fits_room)
 
 pub ruleset put_fields = (columns_turn, put_none, drop_of_length-le)

@@ -13,10 +13,7 @@ use itoa::write_digits;
 fn count_digits(x: u64) -> usize
     ensures { result ≡ length (digits x) }
 {
-    match x.checked_ilog10() {
-        Some(k) => k as usize + 1,
-        None => 1,
-    }
+    x.checked_ilog10().map_or(1, |k| k as usize + 1)
 }
 
 // Whether x fits k columns. Eight, as nearly all fields have, are told by the range: to count the digits of each number that is printed was tried and is slower.
@@ -45,7 +42,7 @@ fn put_number(field: &mut [u8], x: i64)
     }
 }
 
-// The numbers of a line, each in a field of eight columns, the last in one of sixteen where it is wide.
+// The numbers of a line, each in a field of eight columns, the last in one of sixteen where it is wide. `wide` says how wide that field is, and chooses no steps to run.
 #[derive(Clone, Copy)]
 struct Row<'a> {
     numbers: &'a [i64],
@@ -81,16 +78,13 @@ impl Row<'_> {
     }
 
     // Whether each number fits its field.
-    #[tactic(auto, using(crate::proofs::Sets::all_fit), unfolding(crate::specs::Lines::all_fit))]
     fn fit(&self) -> bool
         ensures { result ≡ all_fit self.now.wide self.now.numbers.now }
     {
-        for (i, x) in self.numbers.iter().enumerate() {
-            if !fits(*x, self.width(i)) {
-                return false;
-            }
-        }
-        true
+        self.numbers
+            .iter()
+            .enumerate()
+            .all(|(i, x)| fits(*x, self.width(i)))
     }
 
     // Whether a line has room for the fields behind a tag of this length, and each number fits its field.
@@ -108,6 +102,7 @@ impl Row<'_> {
         requires blank { columns.old ≡ blanks (columns_of self.now.wide (length self.now.numbers.now)) }
         ensures { columns.new ≡ fields self.now.wide self.now.numbers.now }
     {
+        // A running index: the next field begins where the last one ended, and how wide that was is known only then.
         let mut next = 0;
         for (i, x) in self.numbers.iter().enumerate() {
             let end = next + self.width(i);
@@ -132,6 +127,7 @@ fn write_line(line: &mut [u8], tag: &[u8], row: &Row)
 
 // The line of a tag and numbers from index at on, the last field wide or not: whether it was written. Nothing is where they do not fit, or the
 // buffer has no room. A plain yes or no, with nothing beside it: a caller must be able to know that a line was left out, and ours, whose lines fit, need not ask.
+// The buffer and the index beside it are the form in which the callers of this library lend it.
 #[tactic(auto, using(crate::proofs::Sets::put_line))]
 pub fn put_line(buf: &mut [u8], at: usize, tag: &[u8], numbers: &[i64], wide: bool) -> bool
     ensures value { result ≡ line_fits (length tag.now) numbers.now wide && leb (at + 84) (length buf.old) }
@@ -145,7 +141,7 @@ pub fn put_line(buf: &mut [u8], at: usize, tag: &[u8], numbers: &[i64], wide: bo
     true
 }
 
-// The report's title from index at on: whether the buffer had room for it, a plain yes or no as of `put_line` and for the same reason.
+// The report's title from index at on, lent as above: whether the buffer had room for it, a plain yes or no as of `put_line` and for the same reason.
 #[tactic(auto, unfolding(crate::specs::Lines::title, crate::specs::Lines::tag_line, crate::specs::Lines::line_fits, crate::specs::Lines::columns_of, crate::specs::Lines::all_fit, crate::specs::Lines::fields))]
 pub fn put_title(buf: &mut [u8], at: usize) -> bool
     ensures value { result ≡ leb (at + 84) (length buf.old) }

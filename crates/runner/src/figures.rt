@@ -10,7 +10,6 @@ use rules::{Book, Run};
 
 // Figures into their places from place `at` on, as far as there are places.
 fn put(figures: &[i64], list: &mut [i64], at: usize)
-    requires { at ≤ 270 }
     ensures { list.new ≡ sets list.old at figures.now }
 {
     let at = at.min(list.len());
