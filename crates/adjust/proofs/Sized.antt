@@ -15,13 +15,16 @@ use Rattle.numbers.proofs.Sizes.{abs_add}
 use Rattle.std.proofs.lemmas.Int.{to_z-of_z}
 use Rattle.numbers.proofs.Tables.{failed}
 use Rattle.numbers.proofs.Chain.{plain, add, sub, mul}
+use Rattle.station.specs.declared.Staffs.{Staffs}
+use Rattle.station.specs.declared.Staffs.TheVariants.{Nominal, Measured}
 use Rattle.adjust.specs.declared.Opening.{Opening}
 use Rattle.adjust.specs.declared.Section.{Section}
 use Rattle.adjust.specs.declared.Totals.{Totals}
 use Rattle.adjust.specs.declared.terms.Terms.{Terms}
-use Rattle.adjust.specs.Sizes.{highest, most_q, most_r, most_units, most_prints, most_sum_q, most_w}
+use Rattle.adjust.specs.Sizes.{highest, most_q, most_r, most_units, most_prints, most_squared, most_sum_q, most_w}
 use Rattle.adjust.specs.Sections.{section_fits, any_outside, misfit, height_in_range}
-use Rattle.adjust.specs.Line.{quarters, wholes, line_height, line_length, totals, totals_by, frame, frame_of, closing}
+use Rattle.adjust.specs.Terms.{squared_of}
+use Rattle.adjust.specs.Line.{quarters, wholes, units_of, line_height, line_length, totals, totals_by, frame, frame_of, closing}
 use Rattle.adjust.specs.Frames.{figures_fit, line_totals, adjusted_of, line_figures}
 use Rattle.adjust.specs.Call.{adjust_tests, adjust_refusal}
 use Rattle.adjust.specs.code.Bounds.{OneTo, Fitted, Between, Framed}
@@ -69,6 +72,15 @@ quarters_in = record { least = omega ints; most = omega arith }
 pub wholes_in : OneTo most_prints wholes
 wholes_in = record { least = omega ints; most = omega arith }
 
+-- and so are those by the staffs, and the square of their parts
+pub units_in : (c : Staffs) → OneTo most_units (units_of c)
+units_in Nominal = quarters_in
+units_in (Measured first second) = record { least = omega ints; most = omega arith }
+
+pub squared_in : (c : Staffs) → OneTo most_squared (pos (squared_of c))
+squared_in Nominal = record { least = omega ints; most = omega arith }
+squared_in (Measured first second) = record { least = omega ints; most = omega arith }
+
 -- and by its class
 pub framed_by : (terms : Terms) {units prints start : ℤ} {t : Totals} → Framed (frame units prints start t) → Framed (frame units prints start (totals_by terms t))
 framed_by terms {t} f = record { units = f.units; prints = f.prints; start = f.start; closure = smaller terms.tied; total = f.total }
@@ -106,13 +118,14 @@ module _ (start end : ℤ) (ss : List Section) (e : figures_fit start end ss ≡
   fit_fitted = (fitting start end ss e).1
 
 -- what is asked where figures fit, by the machine's heights
-pub ruleset fits = (quarters_in, fit_between, fit_fitted, to_z-of_z)
+pub ruleset fits = (units_in, squared_in, fit_between, fit_fitted, to_z-of_z)
 
 -- ---- what is answered of figures that fit, and of those that do not: two laws of their own
 
-pub totals_by_lem : (start end : ℤ) (ss : List Section) {t : Bool} → figures_fit start end ss ≡ t → line_totals start end ss ≡ cond t (Some (totals quarters start end ss)) None
+pub totals_by_lem : (c : Staffs) (start end : ℤ) (ss : List Section) {t : Bool} → figures_fit start end ss ≡ t
+    → line_totals c start end ss ≡ cond t (Some (totals (units_of c) start end ss)) None
 unfolding line_totals
-totals_by_lem start end ss e = ap (λ (t : Bool). cond t (Some (totals quarters start end ss)) None) e
+totals_by_lem c start end ss e = ap (λ (t : Bool). cond t (Some (totals (units_of c) start end ss)) None) e
 
 pub figures_by : (o : Opening) (end : ℤ) (ss : List Section) {t : Bool} → figures_fit o.start.height end ss ≡ t → line_figures o end ss ≡ cond t (Some (adjusted_of (closing o end ss))) None
 unfolding line_figures

@@ -2,13 +2,14 @@
 use Rattle.std.specs.Prelude.{Bool, cond, not, ◌&&◌, List, length, ltb, ℤ, pos, Some, None}
 use Rattle.std.specs.declared.option.Option.{Option}
 use Rattle.numbers.specs.Numbers.{filled}
+use Rattle.station.specs.declared.Staffs.{Staffs}
 use Rattle.adjust.specs.declared.Opening.{Opening}
 use Rattle.adjust.specs.declared.Section.{Section}
 use Rattle.adjust.specs.declared.Point.{Point}
 use Rattle.adjust.specs.declared.Totals.{Totals}
 use Rattle.adjust.specs.declared.LineFigures.{LineFigures}
 use Rattle.adjust.specs.Sections.{misfit, height_in_range}
-use Rattle.adjust.specs.Line.{quarters, totals, Closing, closing}
+use Rattle.adjust.specs.Line.{units_of, totals, Closing, closing}
 
 abbrev pub no_point : Point
 no_point = record { number = pos 0; distance = pos 0; correction = pos 0; height = pos 0 }
@@ -17,8 +18,8 @@ no_point = record { number = pos 0; distance = pos 0; correction = pos 0; height
 unfoldable pub figures_fit : ℤ → ℤ → List Section → Bool
 figures_fit start end ss = ltb 0 (length ss) && not (misfit ss) && height_in_range start && height_in_range end
 
-unfoldable pub line_totals : ℤ → ℤ → List Section → Option Totals
-line_totals start end ss = cond (figures_fit start end ss) (Some (totals quarters start end ss)) None
+unfoldable pub line_totals : Staffs → ℤ → ℤ → List Section → Option Totals
+line_totals c start end ss = cond (figures_fit start end ss) (Some (totals (units_of c) start end ss)) None
 
 -- a closing, its points in an array
 abbrev pub adjusted_of : Closing → LineFigures

@@ -3,6 +3,8 @@ use Rattle.std.specs.Prelude.{cond, not, ◌||◌, List, [], ◌∷◌, map, ℕ
 use Rattle.std.specs.Int.Signed.{le_z}
 use Rattle.numbers.specs.Numbers.{sum}
 use Rattle.roots.specs.Round.{round_even}
+use Rattle.station.specs.declared.Staffs.{Staffs}
+use Rattle.station.specs.Station.{scale_of}
 use Rattle.adjust.specs.declared.Opening.{Opening}
 use Rattle.adjust.specs.declared.Section.{Section}
 use Rattle.adjust.specs.declared.Point.{Point}
@@ -12,7 +14,7 @@ use Rattle.adjust.specs.declared.Verdict.{Verdict}
 use Rattle.adjust.specs.declared.Verdict.TheVariants.{NotGiven, Within, Above}
 use Rattle.adjust.specs.declared.Frame.{Frame}
 use Rattle.adjust.specs.declared.terms.Terms.{Terms}
-use Rattle.adjust.specs.Terms.{terms_of}
+use Rattle.adjust.specs.Terms.{squared_of, terms_of}
 
 -- the base's units to a millimetre: Q and W are in quarter mm, printed heights in whole mm
 abbrev pub quarters : ℤ
@@ -20,6 +22,10 @@ quarters = pos 4
 
 abbrev pub wholes : ℤ
 wholes = pos 1
+
+-- those of Q and W by the staffs: where their constants were measured, in tenths of a millimetre, Q and W are in a tenth of the base's unit (document 02, W-203)
+abbrev pub units_of : Staffs → ℤ
+units_of c = pos (4 * scale_of c)
 
 -- L, half dm
 abbrev pub line_length : List Section → ℤ
@@ -52,7 +58,9 @@ frame_of units prints start end ss = frame units prints start (totals units star
 
 -- of a line opened as o, up to its end height, which is a placeholder where the end is not known
 abbrev pub line_frame : Opening → ℤ → List Section → Frame
-line_frame o end ss = frame quarters wholes o.start.height (totals_by (terms_of o.class) (totals quarters o.start.height end ss))
+line_frame o end ss =
+    let units : ℤ = units_of o.staffs in
+    frame units wholes o.start.height (totals_by (terms_of o.class) (totals units o.start.height end ss))
 
 -- the exact height at running sums q (of Q) and s (of R) is exact_top / (units × total) print units
 abbrev pub exact_top : Frame → ℤ → ℤ → ℤ
@@ -111,8 +119,7 @@ abbrev pub closing : Opening → ℤ → List Section → Closing
 closing o end ss =
     let f : Frame = line_frame o end ss in
     let terms : Terms = terms_of o.class in
-    -- D is in half mm
-    let t : ℤ = accidental_sum terms 1 ss in
+    let t : ℤ = accidental_sum terms (squared_of o.staffs) ss in
     record {
       -- W as printed, in the corrections' unit
       summary = record { closure = f.prints *ℤ f.closure; distance = f.total; count = length ss; accidental = t; verdict = verdict terms (length ss) t };

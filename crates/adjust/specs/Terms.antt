@@ -1,9 +1,12 @@
 -- What a class of line sets (document 01, 'Runs, sections and the standing list' and 'Closure, corrections, heights'; for spurs document 02, W-202): a row for each class. `Terms` in the code
 -- says what each field is, and its unit; 20,000 half dm are a kilometre. Nothing else in the rules goes by the class, but a station's limits (`limits_of`), by its order.
-use Rattle.std.specs.Prelude.{true, false, pos}
+use Rattle.std.specs.Prelude.{true, false, ℕ, ◌*◌, pos}
 use Rattle.station.specs.declared.Order.{Order}
+use Rattle.station.specs.declared.Staffs.{Staffs}
+use Rattle.station.specs.Station.{scale_of}
 use Rattle.adjust.specs.declared.terms.Class.{Class}
 use Rattle.adjust.specs.declared.terms.Class.TheVariants.{Third, Fourth, Spur}
+use Rattle.adjust.specs.declared.terms.Root.{Root}
 use Rattle.adjust.specs.declared.terms.Terms.{Terms}
 
 abbrev pub order_of : Class → Order
@@ -45,3 +48,17 @@ terms_of Spur =
       circuit = pos 2000000;
       accidental = pos 10000;
     }
+
+-- ---- by the staffs
+
+-- the square of the parts in which the staffs' constants are given, and so also D and W: 1, or 100 where they were measured (document 02, W-203)
+abbrev pub squared_of : Staffs → ℕ
+squared_of c = scale_of c * scale_of c
+
+-- a limit of D or W stays in millimetres: a × x² is as many times as large, and so is b × l
+abbrev pub scaled : Staffs → Root → Root
+scaled c r = record { a = r.a; b = r.b * squared_of c }
+
+-- the row of a class for these staffs
+abbrev pub terms_by : Staffs → Class → Terms
+terms_by c k = record (terms_of k) { apart = scaled c (terms_of k).apart; closing = scaled c (terms_of k).closing }

@@ -4,7 +4,8 @@
 ghost use Rattle.std.specs.Prelude.{◌≡◌, ◌≤◌, take};
 ghost use Rattle.adjust.specs.Sections.{sections_of, misfit, height_in_range};
 ghost use Rattle.adjust.specs.Frames.{figures_fit, line_totals, adjusted_of, line_figures};
-ghost use Rattle.adjust.specs.Line.{closing, verdict_number};
+ghost use Rattle.adjust.specs.Terms.{terms_by};
+ghost use Rattle.adjust.specs.Line.{units_of, closing, verdict_number};
 ghost use Rattle.adjust.specs.code.Bounds.{Between, Fitted};
 
 mod accidental;
@@ -15,10 +16,10 @@ mod ranges;
 mod sums;
 pub mod terms;
 
-use station::{Instrument, Staffs};
-use terms::Class;
+use station::{Instrument, Staffs, scale_of};
+use terms::{Class, Terms};
 
-// The base's units to a millimetre: Q and W in quarter mm, printed heights in whole mm.
+// The base's units to a millimetre, by which the adjustment call always goes: Q and W in quarter mm, printed heights in whole mm.
 const QUARTERS: i64 = 4;
 
 const WHOLES: i64 = 1;
@@ -29,7 +30,7 @@ pub struct Benchmark {
     pub height: i64,
 }
 
-// What a line is opened with, its staffs' constants, and whether its level's collimation was tested since.
+// What a line is opened with, its staffs' constants, and what was done since: whether its level's collimation was tested, and whether any call was taken.
 #[derive(Clone, Copy)]
 pub struct Opening {
     pub class: Class,
@@ -37,6 +38,21 @@ pub struct Opening {
     pub start: Benchmark,
     pub staffs: Staffs,
     pub collimated: bool,
+    pub touched: bool,
+}
+
+impl Opening {
+    // The row of the line's class, its limits of D and W in the units that the staffs set.
+    pub fn terms(&self) -> Terms
+        ensures { result ≡ terms_by self.now.staffs self.now.class }
+    {
+        let terms = self.class.terms();
+        Terms {
+            apart: terms.apart.scaled(self.staffs),
+            closing: terms.closing.scaled(self.staffs),
+            ..terms
+        }
+    }
 }
 
 // A finished section: the benchmark that it ends on, its height difference Q in quarter mm, its distance R in half dm, and the discrepancy D
@@ -159,13 +175,20 @@ fn figures_fit(start: i64, end: i64, sections: &[Section]) -> bool
         && height_in_range(end)
 }
 
+// The units to a millimetre of Q and W: quarter mm, or tenths of these where the constants were measured.
+fn units_of(staffs: Staffs) -> i64
+    ensures { result ≡ units_of staffs }
+{
+    QUARTERS * scale_of(staffs) as i64
+}
+
 // W and L of the sections between two known heights, where `figures_fit`.
 #[tactic(auto, using(crate::proofs::Sized::fits), unfolding(crate::specs::Frames::line_totals))]
-pub fn totals_of(start: i64, end: i64, sections: &[Section]) -> Option<Totals>
-    ensures { result ≡ line_totals start end sections.now }
+pub fn totals_of(staffs: Staffs, start: i64, end: i64, sections: &[Section]) -> Option<Totals>
+    ensures { result ≡ line_totals staffs start end sections.now }
 {
     if figures_fit(start, end, sections) {
-        return Some(sums::totals_between(QUARTERS, start, end, sections));
+        return Some(sums::totals_between(units_of(staffs), start, end, sections));
     }
     None
 }
@@ -176,13 +199,15 @@ fn closing_of(opening: &Opening, end: i64, sections: &[Section]) -> LineFigures
     ensures { result ≡ adjusted_of (closing opening.now end sections.now) }
 {
     let start = opening.start;
+    let units = units_of(opening.staffs);
     let terms = opening.class.terms();
     let t = sums::totals_by(
         terms,
-        sums::totals_between(QUARTERS, start.height, end, sections),
+        sums::totals_between(units, start.height, end, sections),
     );
-    let f = Frame::new(QUARTERS, WHOLES, start.height, t);
-    let accidental = accidental::accidental_sum(terms, 1, sections);
+    let f = Frame::new(units, WHOLES, start.height, t);
+    let squared = terms::squared_of(opening.staffs);
+    let accidental = accidental::accidental_sum(terms, squared, sections);
     let summary = Summary {
         closure: f.prints * f.closure,
         distance: f.total,

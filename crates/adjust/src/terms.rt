@@ -1,8 +1,8 @@
 // The classes of line, and what each sets: the one table by which the rules go, but for a station's limits (`station::judge`), which are those of its order.
-ghost use Rattle.std.specs.Prelude.{◌≡◌};
-ghost use Rattle.adjust.specs.Terms.{order_of, terms_of};
+ghost use Rattle.std.specs.Prelude.{◌≡◌, ◌≤◌, pos};
+ghost use Rattle.adjust.specs.Terms.{order_of, terms_of, squared_of, scaled};
 
-use station::Order;
+use station::{Order, Staffs, scale_of};
 
 // What a line is opened as.
 // A spur is of fourth order, levelled out and back from a known height to an end that is not known.
@@ -84,6 +84,27 @@ impl Class {
                 circuit: 2000000,
                 accidental: 10000,
             },
+        }
+    }
+}
+
+// The square of the parts in which the staffs' constants are given, and so also D and W.
+pub(crate) fn squared_of(staffs: Staffs) -> i64
+    ensures { result ≡ pos (squared_of staffs) }
+{
+    let scale = scale_of(staffs) as i64;
+    scale * scale
+}
+
+impl Root {
+    // The same limit for these staffs.
+    pub(crate) fn scaled(self, staffs: Staffs) -> Root
+        requires { self.b ≤ 72 }
+        ensures { result ≡ scaled staffs self }
+    {
+        Root {
+            a: self.a,
+            b: self.b * squared_of(staffs) as u16,
         }
     }
 }

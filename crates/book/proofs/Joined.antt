@@ -1,6 +1,6 @@
 -- From what a call changes to the book that it leaves, one law for every call; what closing then gives; and that each call can be made of every book.
 use mathlib.Core.Path.{◌≡◌, refl, sym, ap, ◌∙◌}
-use mathlib.Core.Bool.{Bool, true, false, not, cond, ◌&&◌}
+use mathlib.Core.Bool.{Bool, true, false, not, cond, ◌&&◌, ◌||◌}
 use mathlib.Core.List.{List, [], ◌∷◌, ◌++◌}
 use Prim.Native.Nat.{◌≤◌, ◌<◌}
 use native.Mathlib.Omega.{arith}
@@ -12,7 +12,7 @@ use lib.IntN.{ℤ}
 use Rattle.std.specs.Prelude.{Ok, Err, Some, None, IfOk}
 use Rattle.std.specs.declared.option.Option.{Option}
 use Rattle.std.specs.declared.result.Result.{Result}
-use Rattle.numbers.proofs.Tests.{fails, not-false}
+use Rattle.numbers.proofs.Tests.{fails}
 use Rattle.numbers.proofs.Tables.{each_number, first_each, zero_cond, nonzero_cond}
 use Rattle.records.specs.declared.Refusal.{Refusal}
 use Rattle.records.specs.Refusals.{number_of}
@@ -26,12 +26,12 @@ use Rattle.adjust.proofs.Holding.{Places, sections_count, sections_holding, stor
 use Rattle.rules.specs.declared.Outward.{Outward}
 use Rattle.rules.specs.declared.Line.{Line}
 use Rattle.rules.specs.declared.Book.{Book}
-use Rattle.rules.specs.LineState.{LineState, state_of, book_with, is_fresh, is_return, outward_or_return, no_run, one_way, both_ways}
+use Rattle.rules.specs.LineState.{LineState, state_of, book_with, is_fresh, is_open, is_return, outward_or_return, no_run, one_way, both_ways}
 use Rattle.rules.specs.declared.call.Call.{Call}
-use Rattle.rules.specs.declared.call.Call.TheVariants.{OpenLine as open_line, Station as station, EndRun as end_run, DropRun as drop_run, DropSection as drop_section, CloseLine as close_line, OpenSpur as open_spur, CloseSpur as close_spur, Collimation as collimation}
+use Rattle.rules.specs.declared.call.Call.TheVariants.{OpenLine as open_line, Station as station, EndRun as end_run, DropRun as drop_run, DropSection as drop_section, CloseLine as close_line, OpenSpur as open_spur, CloseSpur as close_spur, Collimation as collimation, Constants as constants}
 use Rattle.rules.specs.Rules.{with_runs, with_section, book_tests, book_refusal, taken}
 use Rattle.rules.proofs.Tables.{book_fails, line_unbroken}
-use Rattle.rules.proofs.Unbroken.{SmallWaiting, fresh_none}
+use Rattle.rules.proofs.Unbroken.{SmallWaiting, fresh_none, untouched_none}
 use Rattle.changes.specs.declared.Change.{Change}
 use Rattle.changes.specs.Changes as Changes
 use Rattle.changes.specs.Changes.{first, effect_of, Decides, changed}
@@ -80,9 +80,12 @@ module _ (b : Book) (w : Places b.sections) where
       → record { line = (taken (state_of b) c).line; sections = b.sections } ≡ book_with b (taken (state_of b) c)
   alone c e s = line_alone (taken (state_of b) c) (book_unbroken b c e).few s
 
-  -- a book that is opened has no section
+  -- a book that is opened has no section, nor has one on which constants are taken
   none : (c : Call) → book_refusal (state_of b) c ≡ 0 → not (is_fresh b.line.stage) ≡ false → ss ≡ []
-  none c e f = fresh_none b.line ss (line_unbroken (state_of b) c e) (not-false (is_fresh b.line.stage) f)
+  none c e = fresh_none b.line ss (line_unbroken (state_of b) c e)
+
+  none_yet : (c : Call) → book_refusal (state_of b) c ≡ 0 → not (is_open b.line.stage) || b.line.opening.touched ≡ false → ss ≡ []
+  none_yet c e = untouched_none b.line ss (line_unbroken (state_of b) c e)
 
   effect : (c : Call) → book_refusal (state_of b) c ≡ 0 → changed b (effect_of b.line c) ≡ book_with b (taken (state_of b) c)
   unfolding effect_of
@@ -97,6 +100,8 @@ module _ (b : Book) (w : Places b.sections) where
   effect (open_spur order instrument number height) e =
       let c = open_spur order instrument number height in alone c e (none c e (book_fails (state_of b) c e 21))
   effect (collimation x) e = alone (collimation x) e refl
+  effect (constants first second) e =
+      let c = constants first second in alone c e (none_yet c e (book_fails (state_of b) c e 43))
   effect (close_spur number) e = alone (close_spur number) e refl
   effect (close_line number end) e = alone (close_line number end) e refl
 
@@ -150,6 +155,7 @@ answers v (close_line number end) = search rules
 answers v (open_spur order instrument number height) = search rules
 answers v (close_spur number) = search rules
 answers v (collimation x) = search rules
+answers v (constants first second) = search rules
 
 given : {A : Type 0} (v : LineState) (c : Call) (a : A) → number_of (answered (book_refusal v c) a) ≡ book_refusal v c
 unfolding book_refusal

@@ -3,7 +3,7 @@ ghost use Rattle.std.specs.Prelude.{◌≡◌, IfOk};
 ghost use Rattle.records.specs.Refusals.{number_of};
 ghost use Rattle.adjust.specs.Frames.{adjusted_of};
 ghost use Rattle.rules.specs.LineState.{state_of};
-ghost use Rattle.rules.specs.declared.call.Call.TheVariants.{OpenLine as open_line, Station as station, EndRun as end_run, DropRun as drop_run, DropSection as drop_section, CloseLine as close_line, OpenSpur as open_spur, CloseSpur as close_spur, Collimation as collimation};
+ghost use Rattle.rules.specs.declared.call.Call.TheVariants.{OpenLine as open_line, Station as station, EndRun as end_run, DropRun as drop_run, DropSection as drop_section, CloseLine as close_line, OpenSpur as open_spur, CloseSpur as close_spur, Collimation as collimation, Constants as constants};
 ghost use Rattle.rules.specs.Rules.{book_refusal};
 ghost use Rattle.book.specs.Calls.{book_after, Answers, closing_of, Closes, Tells};
 ghost use Rattle.book.specs.code.Made.{Makes, Fit};
@@ -82,6 +82,13 @@ pub fn collimation(b: Book, x: [i64; 6]) -> Outcome<()>
     ensures { Answers b (collimation x) result }
 {
     take(b, Call::Collimation { values: x })
+}
+
+// The staffs' measured constants, in tenths of a millimetre: of the staff 4,687, then of the staff 4,787.
+pub fn constants(b: Book, first: i64, second: i64) -> Outcome<()>
+    ensures { Answers b (constants first second) result }
+{
+    take(b, Call::Constants { first, second })
 }
 
 // A station: the constants and the readings, back and fore.

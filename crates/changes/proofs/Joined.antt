@@ -27,13 +27,14 @@ use Rattle.adjust.specs.declared.terms.Class.TheVariants.{Spur}
 use Rattle.adjust.specs.Sections.{sections_of}
 use Rattle.adjust.proofs.Holding.{sections_count}
 use Rattle.rules.specs.declared.Book.{Book}
-use Rattle.rules.specs.LineState.{state_of}
+use Rattle.rules.specs.LineState.{state_of, constants_in_range}
 use Rattle.rules.specs.declared.call.Call.{Call}
-use Rattle.rules.specs.declared.call.Call.TheVariants.{OpenLine as open_line, OpenSpur as open_spur, Station as station, EndRun as end_run}
+use Rattle.rules.specs.declared.call.Call.TheVariants.{OpenLine as open_line, OpenSpur as open_spur, Station as station, EndRun as end_run, Constants as constants}
 use Rattle.rules.specs.Rules.{class_of, instrument_of, broken, input_tests, state_tests, book_station_tests, book_refusal}
 use Rattle.rules.specs.code.Bounds.{SmallRuns}
 use Rattle.rules.specs.code.Opened.{class_named, spur_named, instrument_named, named_refusal}
-use Rattle.rules.proofs.Tables.{tables, line_unbroken}
+use Rattle.numbers.proofs.Tests.{not-false}
+use Rattle.rules.proofs.Tables.{tables, book_fails, line_unbroken}
 use Rattle.rules.proofs.Opened.{line_class, instrument, line_refusal, spur_refusal}
 use Rattle.rules.proofs.Unbroken.{Unbroken, unbroken, small_runs}
 use Rattle.changes.specs.declared.Change.{Change}
@@ -48,6 +49,10 @@ book_unbroken b c e =
 -- and its runs small
 pub small_ends : (b : Book) (number : ℤ) → 0 ≡ book_refusal (state_of b) (end_run number) → SmallRuns b.line.waiting b.line.present
 small_ends b number e = small_runs b.line b.sections.count (book_unbroken b (end_run number) (sym e))
+
+-- constants that are taken are in their ranges
+pub constants_fit : (b : Book) (first second : ℤ) → 0 ≡ book_refusal (state_of b) (constants first second) → constants_in_range first second ≡ true
+constants_fit b first second e = not-false (constants_in_range first second) (book_fails (state_of b) (constants first second) (sym e) 42)
 
 -- ---- opening, by what the call's numbers name
 

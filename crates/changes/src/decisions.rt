@@ -2,7 +2,7 @@
 ghost use Rattle.std.specs.Prelude.{◌≡◌, None, MatchOption, IfOk, ⊤};
 ghost use Rattle.records.specs.Refusals.{number_of};
 ghost use Rattle.rules.specs.LineState.{state_of};
-ghost use Rattle.rules.specs.declared.call.Call.TheVariants.{Station as station, EndRun as end_run, DropRun as drop_run, Collimation as collimation};
+ghost use Rattle.rules.specs.declared.call.Call.TheVariants.{Station as station, EndRun as end_run, DropRun as drop_run, Collimation as collimation, Constants as constants};
 ghost use Rattle.rules.specs.Rules.{book_refusal};
 ghost use Rattle.rules.specs.code.Opened.{named_refusal};
 ghost use Rattle.rules.specs.code.Closed.{closing_on};
@@ -10,14 +10,16 @@ ghost use Rattle.changes.specs.Changes.{Decides, opened};
 
 use super::Change;
 use super::effects::{
-    begun, closed, collimated, run_dropped, run_ended, section_dropped, with_station,
+    begun, closed, collimated, measured, run_dropped, run_ended, section_dropped, with_station,
 };
 use adjust::terms::Class;
 use records::Refusal;
 use rules::call::Call;
 use rules::closing::check_close;
 use rules::opening::{check_open, class_named, instrument_named, spur_named};
-use rules::refusals::{check_collimation, check_drop, check_run_end, check_station};
+use rules::refusals::{
+    check_collimation, check_constants, check_drop, check_run_end, check_station,
+};
 use rules::{Book, Line};
 use station::Instrument;
 
@@ -60,6 +62,14 @@ fn collimation_change(b: &Book, x: [i64; 6]) -> Result<Change, Refusal>
 {
     check_collimation(b, x)?;
     Ok(of_line(collimated(&b.line)))
+}
+
+#[tactic(auto, using(crate::proofs::Joined::constants_fit), unfolding(crate::specs::Changes::effect_of))]
+fn constants_change(b: &Book, first: i64, second: i64) -> Result<Change, Refusal>
+    ensures { Decides b.now (constants first second) result }
+{
+    check_constants(b, first, second)?;
+    Ok(of_line(begun(measured(&b.line.opening, first, second))))
 }
 
 #[tactic(auto, using(crate::proofs::Joined::small_ends))]
@@ -125,5 +135,6 @@ pub fn decide(b: &Book, call: &Call) -> Result<Change, Refusal>
         ),
         Call::CloseSpur { number } => close_change(b, number, None),
         Call::Collimation { values } => collimation_change(b, values),
+        Call::Constants { first, second } => constants_change(b, first, second),
     }
 }

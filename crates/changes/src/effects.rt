@@ -1,7 +1,7 @@
 // What a call that is taken leaves of the line, and the section that it finishes.
-ghost use Rattle.std.specs.Prelude.{◌≡◌, Some, None};
+ghost use Rattle.std.specs.Prelude.{◌≡◌, true, Some, None};
 ghost use Rattle.station.specs.code.Bounds.{Small};
-ghost use Rattle.rules.specs.LineState.{no_run, with_station, one_way, both_ways};
+ghost use Rattle.rules.specs.LineState.{constants_in_range, no_run, with_station, one_way, both_ways};
 ghost use Rattle.rules.specs.declared.call.Call.TheVariants.{EndRun as end_run};
 ghost use Rattle.rules.specs.Rules.{with_opening, with_runs, closed_at};
 ghost use Rattle.rules.specs.Rules as Rules;
@@ -11,7 +11,7 @@ ghost use Rattle.changes.specs.Changes.{effect_of};
 use super::Change;
 use adjust::{Opening, Section};
 use rules::{Line, Outward, Run, Stage};
-use station::Figures;
+use station::{Figures, Staffs};
 
 // ---- open
 
@@ -35,10 +35,36 @@ pub(crate) fn collimated(line: &Line) -> Line
 {
     let mut next = *line;
     next.opening.collimated = true;
+    next.opening.touched = true;
     next
 }
 
+// ---- the staffs' constants
+
+pub(crate) fn measured(opening: &Opening, first: i64, second: i64) -> Opening
+    requires { constants_in_range first second ≡ true }
+    ensures { result ≡ Rules.measured opening.now first second }
+{
+    let staffs = Staffs::Measured(first.unsigned_abs() as u16, second.unsigned_abs() as u16);
+    Opening {
+        staffs,
+        touched: true,
+        ..*opening
+    }
+}
+
 // ---- station
+
+// The line with other runs.
+fn with_runs(line: &Line, waiting: Option<Outward>, present: Run) -> Line
+    ensures { result ≡ with_runs line.now waiting present }
+{
+    let mut next = *line;
+    next.opening.touched = true;
+    next.waiting = waiting;
+    next.present = present;
+    next
+}
 
 // The line with the present run's sums and a station's. The bounds stand in each contract: a book may be handed in with any run, so that no type of a run carries them.
 pub(crate) fn with_station(line: &Line, f: &Figures, kf: i64) -> Line
@@ -46,16 +72,14 @@ pub(crate) fn with_station(line: &Line, f: &Figures, kf: i64) -> Line
     ensures { result ≡ with_runs line.now line.now.waiting (with_station line.now.present f.now kf) }
 {
     let run = line.present;
-    Line {
-        present: Run {
-            count: run.count + 1,
-            height: run.height + f.height,
-            sights: run.sights + (f.back.sight + f.fore.sight),
-            difference: run.difference + f.difference,
-            last: kf,
-        },
-        ..*line
-    }
+    let present = Run {
+        count: run.count + 1,
+        height: run.height + f.height,
+        sights: run.sights + (f.back.sight + f.fore.sight),
+        difference: run.difference + f.difference,
+        last: kf,
+    };
+    with_runs(line, line.waiting, present)
 }
 
 // ---- end run
@@ -107,11 +131,7 @@ pub(crate) fn run_ended(line: &Line, number: i64) -> Change
     if line.opening.class.terms().double {
         let waiting = Some(Outward { number, run });
         return Change {
-            line: Line {
-                waiting,
-                present: Run::default(),
-                ..*line
-            },
+            line: with_runs(line, waiting, Run::default()),
             section: None,
         };
     }
@@ -123,20 +143,13 @@ pub(crate) fn run_ended(line: &Line, number: i64) -> Change
 pub(crate) fn run_dropped(line: &Line) -> Line
     ensures { result ≡ with_runs line.now line.now.waiting no_run }
 {
-    Line {
-        present: Run::default(),
-        ..*line
-    }
+    with_runs(line, line.waiting, Run::default())
 }
 
 pub(crate) fn section_dropped(line: &Line) -> Line
     ensures { result ≡ with_runs line.now None no_run }
 {
-    Line {
-        waiting: None,
-        present: Run::default(),
-        ..*line
-    }
+    with_runs(line, None, Run::default())
 }
 
 // ---- close
@@ -144,9 +157,9 @@ pub(crate) fn section_dropped(line: &Line) -> Line
 pub(crate) fn closed(line: &Line, end: i64) -> Line
     ensures { result ≡ closed_at line.now end }
 {
-    Line {
-        stage: Stage::Closed,
-        end,
-        ..*line
-    }
+    let mut next = *line;
+    next.stage = Stage::Closed;
+    next.opening.touched = true;
+    next.end = end;
+    next
 }

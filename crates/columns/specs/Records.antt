@@ -6,7 +6,7 @@ use Rattle.std.specs.declared.result.Result.{Result}
 use Rattle.numbers.specs.Tables.{first_of}
 use Rattle.numbers.specs.Numbers.{put_at}
 use Rattle.records.specs.declared.Tag.{Tag}
-use Rattle.records.specs.declared.Tag.TheVariants.{Lin, Sta, Run, Drr, Drs, End, Spr, Fin, Ang}
+use Rattle.records.specs.declared.Tag.TheVariants.{Lin, Sta, Run, Drr, Drs, End, Spr, Fin, Ang, Kon}
 use Rattle.records.specs.declared.Record.{Record}
 use Rattle.records.specs.declared.Refusal.{Refusal}
 use Rattle.records.specs.declared.Refusal.TheVariants.{NotARecord, BadField}
@@ -27,6 +27,7 @@ letters End = 69 ∷ 78 ∷ 68 ∷ []
 letters Spr = 83 ∷ 80 ∷ 82 ∷ []
 letters Fin = 70 ∷ 73 ∷ 78 ∷ []
 letters Ang = 65 ∷ 78 ∷ 71 ∷ []
+letters Kon = 75 ∷ 79 ∷ 78 ∷ []
 
 -- how many numbers follow a tag
 abbrev pub field_count : Tag → ℕ
@@ -39,9 +40,10 @@ field_count End = 2
 field_count Spr = 4
 field_count Fin = 1
 field_count Ang = 6
+field_count Kon = 2
 
 abbrev pub tags : List Tag
-tags = Lin ∷ Sta ∷ Run ∷ Drr ∷ Drs ∷ End ∷ Spr ∷ Fin ∷ Ang ∷ []
+tags = Lin ∷ Sta ∷ Run ∷ Drr ∷ Drs ∷ End ∷ Spr ∷ Fin ∷ Ang ∷ Kon ∷ []
 
 -- the first of these tags with the letters w
 unfoldable pub tag_among : List Tag → List ℕ → Option Tag

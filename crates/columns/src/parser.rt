@@ -94,6 +94,7 @@ fn field_count(tag: Tag) -> usize
         Tag::Spr => 4,
         Tag::Fin => 1,
         Tag::Ang => 6,
+        Tag::Kon => 2,
     }
 }
 
@@ -112,6 +113,7 @@ fn find_tag(letters: &[u8]) -> Option<Tag>
         b"SPR" => Some(Tag::Spr),
         b"FIN" => Some(Tag::Fin),
         b"ANG" => Some(Tag::Ang),
+        b"KON" => Some(Tag::Kon),
         _ => None,
     }
 }

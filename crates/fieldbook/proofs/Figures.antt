@@ -13,33 +13,36 @@ use Rattle.numbers.proofs.All.{All, all_head}
 use Rattle.numbers.proofs.Parts.{ints, neg_part, parts_add, parts_sub, parts_times, parts_abs}
 use Rattle.numbers.proofs.Sizes.{abs_add, abs_sub, abs_mul, square_abs, within_size}
 use Rattle.roots.proofs.RoundLaws.{round_mono, round_exact}
-use Rattle.station.specs.declared.Staffs.TheVariants.{Nominal}
+use Rattle.station.specs.declared.Staffs.{Staffs}
+use Rattle.station.specs.declared.Staffs.TheVariants.{Nominal, Measured}
+use Rattle.station.specs.Station.{scale_of}
 use Rattle.adjust.specs.declared.terms.Class.{Class}
 use Rattle.adjust.specs.declared.terms.Class.TheVariants.{Third, Fourth, Spur}
 use Rattle.adjust.specs.declared.Section.{Section}
 use Rattle.adjust.specs.declared.Frame.{Frame}
 use Rattle.adjust.specs.declared.Verdict.{Verdict}
 use Rattle.adjust.specs.declared.Verdict.TheVariants.{NotGiven, Within, Above}
-use Rattle.adjust.specs.Line.{exact_top, accidental, accidental_sum, verdict_number}
+use Rattle.adjust.specs.Line.{units_of, exact_top, accidental, accidental_sum, verdict_number}
 use Rattle.adjust.proofs.Lists.{Fit, fit_head, fit_tail}
 use Rattle.adjust.specs.declared.terms.Terms.{Terms}
 use Rattle.adjust.specs.Sizes.{most_l}
-use Rattle.adjust.specs.Terms.{terms_of}
+use Rattle.adjust.specs.Terms.{terms_by}
 use Rattle.rules.specs.Rules.{closure_within}
 use Rattle.ledger.proofs.Runs.{root_size, narrow}
 
 -- ---- sections
 
-pub record Narrow (x : Section) : Type 0 where
+-- levelled with the staffs c
+pub record Narrow (c : Staffs) (x : Section) : Type 0 where
   pub number : nat_abs x.number ≤ 9999
-  pub height : nat_abs x.height ≤ 4802400
+  pub height : nat_abs x.height ≤ 4802400 * scale_of c
 
-pub narrow_head : (x : Section) (xs : List Section) → All (narrow Nominal) (x ∷ xs) → Narrow x
-narrow_head x xs e =
+pub narrow_head : (c : Staffs) (x : Section) (xs : List Section) → All (narrow c) (x ∷ xs) → Narrow c x
+narrow_head c x xs e =
     let n = within x.number 9999 in
-    let q = within x.height 4802400 in
-    let h = all_head (narrow Nominal) x xs e in
-    record { number = within_size x.number 9999 (and_l n q h); height = within_size x.height 4802400 (and_r n q h) }
+    let q = within x.height (4802400 * scale_of c) in
+    let h = all_head (narrow c) x xs e in
+    record { number = within_size x.number 9999 (and_l n q h); height = within_size x.height (4802400 * scale_of c) (and_r n q h) }
 
 -- ---- the line
 
@@ -71,13 +74,16 @@ verdict_small Within = omega arith
 verdict_small Above = omega arith
 
 -- W, by the test 36, of a line of 64 sections at most
-abbrev pub most_closure : ℕ
-most_closure = 80000
+abbrev pub most_closure : Staffs → ℕ
+most_closure c = 80000 * scale_of c
 
-pub closure_small : (o : Class) (w l : ℤ) → closure_within (terms_of o) w l ≡ true → l ≤ℤ pos most_l → nat_abs w ≤ most_closure
-closure_small Third w l e h = root_size 625 w 72 l most_closure (omega arith) e (omega (ints, parts_times 72 l))
-closure_small Fourth w l e h = root_size 25 w 8 l most_closure (omega arith) e (omega (ints, parts_times 8 l))
-closure_small Spur w l e h = root_size 25 w 8 l most_closure (omega arith) e (omega (ints, parts_times 8 l))
+pub closure_small : (c : Staffs) (o : Class) (w l : ℤ) → closure_within (terms_by c o) w l ≡ true → l ≤ℤ pos most_l → nat_abs w ≤ most_closure c
+closure_small Nominal Third w l e h = root_size 625 w 72 l 80000 (omega arith) e (omega (ints, parts_times 72 l))
+closure_small Nominal Fourth w l e h = root_size 25 w 8 l 80000 (omega arith) e (omega (ints, parts_times 8 l))
+closure_small Nominal Spur w l e h = root_size 25 w 8 l 80000 (omega arith) e (omega (ints, parts_times 8 l))
+closure_small (Measured first second) Third w l e h = root_size 625 w 7200 l 800000 (omega arith) e (omega (ints, parts_times 7200 l))
+closure_small (Measured first second) Fourth w l e h = root_size 25 w 800 l 800000 (omega arith) e (omega (ints, parts_times 800 l))
+closure_small (Measured first second) Spur w l e h = root_size 25 w 800 l 800000 (omega arith) e (omega (ints, parts_times 800 l))
 
 -- ---- a point, at running sums that are within the line's
 
@@ -91,13 +97,20 @@ by_difference a b = omega (arith, parts_sub a b, parts_abs (a -ℤ b), parts_abs
 by_sum : (a b : ℤ) → nat_abs a ≤ nat_abs (a +ℤ b) + nat_abs b
 by_sum a b = omega (arith, parts_add a b, parts_abs (a +ℤ b), parts_abs a, parts_abs b)
 
--- with Q and W in quarter mm, and heights printed in mm
-abbrev pub millimetres : ℤ → ℤ → ℤ → Frame
-millimetres start closing total = record { units = pos 4; prints = pos 1; start = start; closure = closing; total = total }
+-- with Q and W in the units of the staffs, and heights printed in mm
+abbrev pub millimetres : Staffs → ℤ → ℤ → ℤ → Frame
+millimetres c start closing total = record { units = units_of c; prints = pos 1; start = start; closure = closing; total = total }
 
-module _ (start closing total : ℤ) (begins : nat_abs start ≤ 8999999) (closes : nat_abs closing ≤ most_closure) (long : pos 1 ≤ℤ total) where
+pub some_scale : (c : Staffs) → 0 < scale_of c
+some_scale Nominal = omega arith
+some_scale (Measured first second) = omega arith
+
+module _ (c : Staffs) (start closing total : ℤ) (begins : nat_abs start ≤ 8999999) (closes : nat_abs closing ≤ most_closure c) (long : pos 1 ≤ℤ total) where
   abbrev f : Frame
-  f = millimetres start closing total
+  f = millimetres c start closing total
+
+  abbrev k : ℕ
+  k = scale_of c
 
   abbrev l : ℕ
   l = nat_abs total
@@ -105,38 +118,42 @@ module _ (start closing total : ℤ) (begins : nat_abs start ≤ 8999999) (close
   some : 0 < l
   some = omega (ints, parts_abs total)
 
-  four : nat_abs (pos 4 *ℤ total) ≡ 4 * l
-  four = abs_mul (pos 4) total
+  divisor : nat_abs (units_of c *ℤ total) ≡ 4 * k * l
+  divisor = abs_mul (units_of c) total
 
-  -- 4 × 8,999,999 for the start, 64 × 4,802,400 for the sections and 80,000 for W
-  exact_small : (q s : ℤ) → nat_abs q ≤ 307353600 → nat_abs s ≤ l → nat_abs (exact_top f q s) ≤ 343433596 * l
+  -- 4 × 8,999,999 for the start, 64 × 4,802,400 for the sections and 80,000 for W, by the parts of the constants
+  exact_small : (q s : ℤ) → nat_abs q ≤ 307353600 * k → nat_abs s ≤ l → nat_abs (exact_top f q s) ≤ 343433596 * (k * l)
   exact_small q s hq hs =
-      let b = pos 4 *ℤ start in
+      let b = units_of c *ℤ start in
+      let begin : nat_abs b ≤ 4 * k * 8999999 = mul_small (units_of c) start (4 * k) 8999999 (omega arith) begins in
       omega (
         arith,
         abs_mul (pos 1) (b *ℤ total +ℤ q *ℤ total -ℤ closing *ℤ s),
         abs_sub (b *ℤ total +ℤ q *ℤ total) (closing *ℤ s),
         abs_add (b *ℤ total) (q *ℤ total),
-        mul_small b total 35999996 l (omega (arith, abs_mul (pos 4) start)) (omega arith),
-        mul_small q total 307353600 l hq (omega arith),
-        mul_small closing s most_closure l closes hs,
+        mul_small b total (4 * k * 8999999) l begin (omega arith),
+        mul_small q total (307353600 * k) l hq (omega arith),
+        mul_small closing s (most_closure c) l closes hs,
       )
 
-  pub height_small : (q s h : ℤ) → nat_abs q ≤ 307353600 → nat_abs s ≤ l → 2 * nat_abs (pos 4 *ℤ total *ℤ h -ℤ exact_top f q s) ≤ nat_abs (pos 4 *ℤ total)
-      → nat_abs h ≤ 85858400
-  height_small q s h hq hs near = le_of_mul-le-mul_left by_length some
+  pub height_small : (q s h : ℤ) → nat_abs q ≤ 307353600 * k → nat_abs s ≤ l
+      → 2 * nat_abs (units_of c *ℤ total *ℤ h -ℤ exact_top f q s) ≤ nat_abs (units_of c *ℤ total) → nat_abs h ≤ 85858400
+  height_small q s h hq hs near = le_of_mul-le-mul_left by_length both
     where
-      product : nat_abs (pos 4 *ℤ total *ℤ h) ≡ 4 * l * nat_abs h
-      product = rw (abs_mul (pos 4 *ℤ total) h, four)
+      both : 0 < k * l
+      both = mul-le-mul (some_scale c) some
 
-      by_length : l * nat_abs h ≤ l * 85858400
-      by_length = omega (arith, near, four, product, exact_small q s hq hs, by_difference (pos 4 *ℤ total *ℤ h) (exact_top f q s))
+      product : nat_abs (units_of c *ℤ total *ℤ h) ≡ 4 * k * l * nat_abs h
+      product = rw (abs_mul (units_of c *ℤ total) h, divisor)
 
-  pub correction_small : (c r : ℤ) → nat_abs r ≤ l → nat_abs (c *ℤ total +ℤ pos 1 *ℤ closing *ℤ r) ≤ nat_abs (pos 4 *ℤ total) → nat_abs c ≤ 80004
-  correction_small c r hr near = le_of_mul-le-mul_left by_length some
+      by_length : k * l * nat_abs h ≤ k * l * 85858400
+      by_length = omega (arith, near, divisor, product, exact_small q s hq hs, by_difference (units_of c *ℤ total *ℤ h) (exact_top f q s))
+
+  pub correction_small : (x r : ℤ) → nat_abs r ≤ l → nat_abs (x *ℤ total +ℤ pos 1 *ℤ closing *ℤ r) ≤ nat_abs (units_of c *ℤ total) → nat_abs x ≤ 80004 * k
+  correction_small x r hr near = le_of_mul-le-mul_left by_length some
     where
-      share : nat_abs (pos 1 *ℤ closing *ℤ r) ≤ most_closure * l
-      share = mul_small (pos 1 *ℤ closing) r most_closure l (omega (arith, abs_mul (pos 1) closing)) hr
+      share : nat_abs (pos 1 *ℤ closing *ℤ r) ≤ most_closure c * l
+      share = mul_small (pos 1 *ℤ closing) r (most_closure c) l (omega (arith, closes, abs_mul (pos 1) closing)) hr
 
-      by_length : l * nat_abs c ≤ l * 80004
-      by_length = omega (arith, near, four, abs_mul c total, share, by_sum (c *ℤ total) (pos 1 *ℤ closing *ℤ r))
+      by_length : l * nat_abs x ≤ l * (80004 * k)
+      by_length = omega (arith, near, divisor, abs_mul x total, share, by_sum (x *ℤ total) (pos 1 *ℤ closing *ℤ r))

@@ -2,8 +2,8 @@
 use mathlib.Core.Path.{◌≡◌, refl, sym, ap, subst, ◌∙◌}
 use mathlib.Core.Bool.{Bool, true, cond}
 use mathlib.Core.List.{List, [], ◌∷◌}
-use Prim.Native.Nat.{◌+◌, ◌*◌, ◌≤◌}
-use native.Mathlib.Nat.{le_trans}
+use Prim.Native.Nat.{ℕ, ◌+◌, ◌*◌, ◌≤◌, ◌<◌}
+use native.Mathlib.Nat.{le_trans, mul-le-mul, mul-le-mul_left}
 use native.Mathlib.Omega.{arith}
 use lib.ListN.{length}
 use lib.IntN.{ℤ, pos, nat_abs, ◌+ℤ◌, ◌*ℤ◌}
@@ -13,7 +13,8 @@ use Rattle.numbers.proofs.All.{All, all_cons, all_tail}
 use Rattle.numbers.proofs.Parts.{ints, parts_add, parts_abs, test_ge}
 use Rattle.numbers.proofs.Sizes.{abs_add, abs_mul}
 use Rattle.station.specs.declared.Staffs.{Staffs}
-use Rattle.station.specs.declared.Staffs.TheVariants.{Nominal}
+use Rattle.station.specs.Station.{scale_of}
+use Rattle.station.proofs.Sizes.{scale_size}
 use Rattle.adjust.specs.declared.terms.Class.{Class}
 use Rattle.adjust.specs.declared.Point.{Point}
 use Rattle.adjust.specs.declared.Summary.{Summary}
@@ -22,7 +23,7 @@ use Rattle.adjust.specs.Claims.{Near, next_section}
 use Rattle.adjust.specs.declared.terms.Terms.{Terms}
 use Rattle.adjust.specs.Sizes.{most_l}
 use Rattle.adjust.specs.declared.Frame.{Frame}
-use Rattle.adjust.specs.Line.{quarters, wholes, line_frame, Closing, closing, closure, line_length, point_after, points_after, section_points, printed_height, verdict_number}
+use Rattle.adjust.specs.Line.{units_of, wholes, line_frame, Closing, closing, closure, line_length, point_after, points_after, section_points, printed_height, verdict_number}
 use Rattle.adjust.proofs.Lines.{line_near}
 use Rattle.adjust.proofs.Lists.{Fit, fit_head, fit_tail, fitted_legs}
 use Rattle.adjust.proofs.Sized.{long, length_size, in_range_lem}
@@ -32,9 +33,9 @@ use Rattle.columns.proofs.Fields.{fits_within}
 use Rattle.columns.proofs.Lines.{columns_range, fits_room, height_fits}
 use Rattle.rules.specs.declared.Stage.TheVariants.{Closed}
 use Rattle.rules.specs.LineState.{LineState}
-use Rattle.adjust.specs.Terms.{terms_of}
+use Rattle.adjust.specs.Terms.{squared_of, terms_of, terms_by}
 use Rattle.rules.specs.declared.call.Call.{Call}
-use Rattle.rules.specs.declared.call.Call.TheVariants.{OpenLine as open_line, OpenSpur as open_spur, Collimation as collimation, Station as station, EndRun as end_run, DropRun as drop_run, DropSection as drop_section, CloseLine as close_line, CloseSpur as close_spur}
+use Rattle.rules.specs.declared.call.Call.TheVariants.{OpenLine as open_line, OpenSpur as open_spur, Collimation as collimation, Constants as constants, Station as station, EndRun as end_run, DropRun as drop_run, DropSection as drop_section, CloseLine as close_line, CloseSpur as close_spur}
 use Rattle.rules.specs.Rules.{closure_within}
 use Rattle.ledger.specs.Plain as Plain
 use Rattle.ledger.specs.Claims.{ClosedBy, by_end, by_fin}
@@ -45,7 +46,7 @@ use Rattle.ledger.proofs.Kept.{Kept, calls_kept}
 use Rattle.ledger.proofs.Every.{every_list}
 use Rattle.fieldbook.specs.Report.{shown_t, point_numbers}
 use Rattle.fieldbook.specs.Fits.{closed_fits, point_fits, FiguresFit}
-use Rattle.fieldbook.proofs.Figures.{narrow_head, sum_low, verdict_small, most_closure, closure_small, millimetres, height_small, correction_small}
+use Rattle.fieldbook.proofs.Figures.{narrow_head, some_scale, sum_low, verdict_small, most_closure, closure_small, millimetres, height_small, correction_small}
 
 -- ---- fields
 
@@ -93,18 +94,21 @@ point_fits_lem p n d c h =
 
 -- ---- the points of a line
 
-module _ (start closed total : ℤ) (begins : nat_abs start ≤ 8999999) (closes : nat_abs closed ≤ most_closure) (some : pos 1 ≤ℤ total) (short : total ≤ℤ pos most_l) where
+module _ (c : Staffs) (start closed total : ℤ) (begins : nat_abs start ≤ 8999999) (closes : nat_abs closed ≤ most_closure c) (some : pos 1 ≤ℤ total) (short : total ≤ℤ pos most_l) where
   abbrev f : Frame
-  f = millimetres start closed total
+  f = millimetres c start closed total
+
+  abbrev k : ℕ
+  k = scale_of c
 
   -- after running sums q and s, with the sums of the sections that follow still within those of a line
-  points_fit_lem : (q s h : ℤ) (xs : List Section) → Fit xs → All (narrow Nominal) xs
-      → nat_abs q + 4802400 * length xs ≤ 307353600 → pos 0 ≤ℤ s → (s +ℤ line_length xs) ≤ℤ total
+  points_fit_lem : (q s h : ℤ) (xs : List Section) → Fit xs → All (narrow c) xs
+      → nat_abs q + 4802400 * k * length xs ≤ 307353600 * k → pos 0 ≤ℤ s → (s +ℤ line_length xs) ≤ℤ total
       → Near f q s xs (points_after f q s h xs) → All point_fits (points_after f q s h xs)
   points_fit_lem q s h [] fit n hq hs ht near = refl
   points_fit_lem q s h (x ∷ xs) fit n hq hs ht (next_section height correction near) =
       let leg = fit_head x xs fit in
-      let here = narrow_head x xs n in
+      let here = narrow_head c x xs n in
       let q₂ : ℤ = q +ℤ x.height in
       let s₂ : ℤ = s +ℤ x.distance in
       let g : ℤ = printed_height f q₂ s₂ in
@@ -114,16 +118,19 @@ module _ (start closed total : ℤ) (begins : nat_abs start ≤ 8999999) (closes
       omega (ints, ht, parts_add s x.distance, parts_add s₂ (line_length xs), parts_add s (line_length (x ∷ xs)), parts_add x.distance (line_length xs)) in
       let in_line : nat_abs s₂ ≤ nat_abs total = omega (ints, forward, on, rest, parts_add s₂ (line_length xs), parts_abs s₂, parts_abs total) in
       let part : nat_abs x.distance ≤ nat_abs s₂ = omega (ints, hs, leg.long, parts_add s x.distance, parts_abs s₂, parts_abs x.distance) in
-      let sum : nat_abs q₂ + 4802400 * length xs ≤ 307353600 = omega (arith, hq, here.height, abs_add q x.height) in
+      let sum : nat_abs q₂ + 4802400 * k * length xs ≤ 307353600 * k = omega (arith, hq, here.height, abs_add q x.height) in
       all_cons point_fits (point_after f q s h x) (points_after f q₂ s₂ g xs)
       (point_fits_lem (point_after f q s h x) (omega (arith, here.number)) (forward, omega (ints, in_line, short, some, parts_abs total, parts_abs s₂))
-      (omega (arith, correction_small start closed total begins closes some (point_after f q s h x).correction x.distance (le_trans part in_line) correction))
-      (omega (arith, height_small start closed total begins closes some q₂ s₂ g (omega (arith, sum)) in_line height)))
-      (points_fit_lem q₂ s₂ g xs (fit_tail x xs fit) (all_tail (narrow Nominal) x xs n) sum forward on near)
+      (omega (arith, scale_size c, correction_small c start closed total begins closes some (point_after f q s h x).correction x.distance (le_trans part in_line) correction))
+      (omega (arith, height_small c start closed total begins closes some q₂ s₂ g (omega (arith, sum)) in_line height)))
+      (points_fit_lem q₂ s₂ g xs (fit_tail x xs fit) (all_tail (narrow c) x xs n) sum forward on near)
 
 -- ---- a line that is closed, whose W is small
 
-module _ (v : LineState) (i : Kept v) (shut : v.line.stage ≡ Closed) (small : nat_abs (line_frame v.line.opening v.line.end v.sections).closure ≤ most_closure) where
+module _ (v : LineState) (i : Kept v) (shut : v.line.stage ≡ Closed) (small : nat_abs (line_frame v.line.opening v.line.end v.sections).closure ≤ most_closure v.line.opening.staffs) where
+  abbrev c : Staffs
+  c = v.line.opening.staffs
+
   abbrev start : ℤ
   start = v.line.opening.start.height
 
@@ -135,6 +142,9 @@ module _ (v : LineState) (i : Kept v) (shut : v.line.stage ≡ Closed) (small : 
 
   abbrev gave : Closing
   gave = closing v.line.opening v.line.end ss
+
+  four : 0 < 4
+  four = omega arith
 
   fit : Fit ss
   fit = fitted_legs ss i.fit
@@ -151,30 +161,31 @@ module _ (v : LineState) (i : Kept v) (shut : v.line.stage ≡ Closed) (small : 
   summary_fits : closed_fits gave.summary ≡ true
   summary_fits =
       let terms : Terms = terms_of v.line.opening.class in
-      closed_fits_lem gave.summary (omega (arith, small, abs_mul (pos 1) framed.closure)) (omega (ints, some), omega (ints, short)) i.few
-      (sum_low terms 1 (omega arith) ss fit)
+      closed_fits_lem gave.summary (omega (arith, small, scale_size c, abs_mul (pos 1) framed.closure)) (omega (ints, some), omega (ints, short)) i.few
+      (sum_low terms (squared_of c) (mul-le-mul (some_scale c) (some_scale c)) ss fit)
 
   all_fit_lem : All point_fits gave.points
   all_fit_lem =
       all_cons point_fits _ (section_points framed ss)
       (point_fits_lem _ (omega (arith, i.number)) (omega ints, omega ints) (omega arith) (omega (arith, begins, abs_mul (pos 1) start)))
-      (points_fit_lem start framed.closure (line_length ss) begins small some short (pos 0) (pos 0) (pos 1 *ℤ start) ss fit (subst (λ (c : Staffs). All (narrow c) ss) i.nominal i.narrow_sections) (omega (arith, i.few)) (omega ints)
-      (omega (ints, parts_add (pos 0) (line_length ss))) (line_near 4 (omega arith) wholes ss some start framed.closure))
+      (points_fit_lem c start framed.closure (line_length ss) begins small some short (pos 0) (pos 0) (pos 1 *ℤ start) ss fit i.narrow_sections (omega (arith, mul-le-mul_left (4802400 * scale_of c) i.few)) (omega ints)
+      (omega (ints, parts_add (pos 0) (line_length ss))) (line_near (4 * scale_of c) (mul-le-mul four (some_scale c)) wholes ss some start framed.closure))
 
 -- W is small where END was taken, by the test 36, and 0 where FIN was
 closed_small : (r : Reading) (c : Call) → ClosedBy r c → Plain.refusal r c ≡ 0 → Kept (plain_state (Plain.taken r c))
-    → let v : LineState = plain_state (Plain.taken r c) in nat_abs (line_frame v.line.opening v.line.end v.sections).closure ≤ most_closure
+    → let v : LineState = plain_state (Plain.taken r c) in nat_abs (line_frame v.line.opening v.line.end v.sections).closure ≤ most_closure v.line.opening.staffs
 closed_small r (close_line n end) (by_end m h tied) e k =
     let v : LineState = plain_state r in
     let class : Class = r.opening.class in
     let l : ℤ = line_length v.sections in
-    let w : ℤ = closure quarters r.opening.start.height end v.sections in
+    let c : Staffs = r.opening.staffs in
+    let w : ℤ = closure (units_of c) r.opening.start.height end v.sections in
     let short : l ≤ℤ pos most_l = omega (ints, length_size v.sections (fitted_legs v.sections k.fit), k.few, parts_abs l) in
-    let small : nat_abs w ≤ most_closure = closure_small class w l (not-false (closure_within (terms_of class) w l) (fails v (close_line n end) e 36)) short in
-    subst (λ (t : Bool). nat_abs (cond t w (pos 0)) ≤ most_closure) (sym tied) small
+    let small : nat_abs w ≤ most_closure c = closure_small c class w l (not-false (closure_within (terms_by c class) w l) (fails v (close_line n end) e 36)) short in
+    subst (λ (t : Bool). nat_abs (cond t w (pos 0)) ≤ most_closure c) (sym tied) small
 closed_small r (close_spur n) (by_fin m loose) e k =
     let v : LineState = plain_state r in
-    subst (λ (t : Bool). nat_abs (cond t (closure quarters r.opening.start.height (pos 0) v.sections) (pos 0)) ≤ most_closure) (sym loose) (omega arith)
+    subst (λ (t : Bool). nat_abs (cond t (closure (units_of r.opening.staffs) r.opening.start.height (pos 0) v.sections) (pos 0)) ≤ most_closure r.opening.staffs) (sym loose) (omega arith)
 closed_small r (open_line _ _ _ _) never e k = elim never [ ]
 closed_small r (station _ _ _) never e k = elim never [ ]
 closed_small r (end_run _) never e k = elim never [ ]
@@ -182,6 +193,7 @@ closed_small r drop_run never e k = elim never [ ]
 closed_small r drop_section never e k = elim never [ ]
 closed_small r (open_spur _ _ _ _) never e k = elim never [ ]
 closed_small r (collimation _) never e k = elim never [ ]
+closed_small r (constants _ _) never e k = elim never [ ]
 
 pub figures_fit_lem : FiguresFit
 figures_fit_lem calls e =

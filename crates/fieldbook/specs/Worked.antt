@@ -1,4 +1,5 @@
--- Case A of document 01, with the collimation test of document 02, W-204, worked: the bytes of its text give the bytes of its report, both written out as they stand in a file.
+-- Case A of document 01, with the collimation test of document 02, W-204, and its section 1 alone by measured constants (document 02, W-203), worked: the bytes of a text give the bytes of
+-- its report, both written out as they stand in a file.
 use Rattle.std.specs.Prelude.{◌≡◌, refl, List, ℕ, pos}
 use mathlib.Core.List as Lists
 use Prim.Native.Char.{code}
@@ -43,6 +44,33 @@ report_a =
 pub case_a : report (bytes_of book_a) ≡ bytes_of report_a
 unfolding report lines_by lines joined line_in record_in numbers_line tag_among all_numbers numbers_in put_at heading title line_with line_end field_of candidate has_minus value_of same pad decimal digits digits_by blanks tag_line line_fits columns_of all_fit width_of fits_in fields is_wide refusals_from round_even is_within within_angle
 case_a = refl
+
+-- W and the corrections in a tenth of the unit, heights in mm
+abbrev pub book_measured : String
+book_measured =
+    "LEVEL BOOK                                                                         \n"
+    ++ "LIN       4       3       1   10000                                                \n"
+    ++ "KON   46850   47870                                                                \n"
+    ++ "ANG    5937    5951    6043    6067    6800   40300                                \n"
+    ++ "STA    4787    1571    1197    1384    6171    4687     739     363     551    5239\n"
+    ++ "STA    4687    1965    1700    1832    6519    4787    2141    1874    2007    6793\n"
+    ++ "RUN       2                                                                        \n"
+    ++ "KON   46850   47870                                                                \n"
+    ++ "KON   46769   47870                                                                \n"
+    ++ "END       2   10651                                                                \n"
+
+abbrev pub report_measured : String
+report_measured =
+    "REDUCED LEVELS                                                                     \n"
+    ++ "REF       8      43                                                                \n"
+    ++ "REF       9      42                                                                \n"
+    ++ "CLO     280    2564       1       0       0                                        \n"
+    ++ "PNT       1       0       0   10000                                                \n"
+    ++ "PNT       2    2564    -280   10651                                                \n"
+
+pub case_measured : report (bytes_of book_measured) ≡ bytes_of report_measured
+unfolding report lines_by lines joined line_in record_in numbers_line tag_among all_numbers numbers_in put_at heading title line_with line_end field_of candidate has_minus value_of same pad decimal digits digits_by blanks tag_line line_fits columns_of all_fit width_of fits_in fields is_wide refusals_from round_even is_within within_angle
+case_measured = refl
 
 -- T in CLO, up to eight digits and beyond
 pub shown_99999999 : shown_t (pos 99999999) ≡ pos 99999999

@@ -2,6 +2,7 @@
 use mathlib.Core.Path.{◌≡◌, refl, sym, ap, subst, ◌∙◌}
 use mathlib.Core.Bool.{Bool, true, false, not, cond}
 use mathlib.Core.List.{List, [], ◌∷◌, ◌++◌, map}
+use Prim.Native.Nat.{◌*◌, ◌<◌}
 use Rattle.std.specs.declared.option.Option.{Option}
 use Rattle.std.specs.Prelude.{Some, None}
 use native.Mathlib.Omega.{arith}
@@ -12,6 +13,9 @@ use Rattle.numbers.specs.Numbers.{any_of}
 use Rattle.numbers.proofs.Tests.{by_test, holds, no_true, not-false}
 use Rattle.numbers.proofs.Tables.{met}
 use Rattle.numbers.proofs.Ring.{one_mulℤ}
+use Rattle.station.specs.declared.Staffs.{Staffs}
+use Rattle.station.specs.declared.Staffs.TheVariants.{Nominal, Measured}
+use Rattle.station.specs.Station.{scale_of}
 use Rattle.adjust.specs.declared.terms.Class.{Class}
 use Rattle.adjust.specs.declared.terms.Class.TheVariants.{Third, Fourth, Spur}
 use Rattle.adjust.specs.declared.Opening.{Opening}
@@ -19,13 +23,13 @@ use Rattle.adjust.specs.declared.Point.{Point}
 use Rattle.adjust.specs.declared.Summary.{Summary}
 use Rattle.adjust.specs.Terms.{terms_of}
 use Rattle.adjust.specs.declared.Frame.{Frame}
-use Rattle.adjust.specs.Line.{quarters, wholes, frame, closure, points, Closing, closing, line_length}
+use Rattle.adjust.specs.Line.{units_of, wholes, frame, closure, points, Closing, closing, line_length}
 use Rattle.adjust.proofs.Lines.{line_sound, line_near, raw_heights_lem}
 use Rattle.rules.specs.declared.Stage.{Stage}
 use Rattle.rules.specs.declared.Stage.TheVariants.{Closed}
 use Rattle.rules.specs.LineState.{LineState}
 use Rattle.rules.specs.declared.call.Call.{Call}
-use Rattle.rules.specs.declared.call.Call.TheVariants.{OpenLine as open_line, EndRun as end_run, DropRun as drop_run, DropSection as drop_section, CloseLine as close_line, OpenSpur as open_spur, CloseSpur as close_spur}
+use Rattle.rules.specs.declared.call.Call.TheVariants.{OpenLine as open_line, EndRun as end_run, DropRun as drop_run, DropSection as drop_section, CloseLine as close_line, OpenSpur as open_spur, CloseSpur as close_spur, Constants as constants}
 use Rattle.rules.specs.Rules.{is_closing, input_tests}
 use Rattle.ledger.specs.Plain.{Reading, Awaited, fresh_reading, after, next, taken, refusal, plain_state, run_ended, refusals, figures_of, given, closings}
 use Rattle.ledger.specs.Claims.{others, Ends, SoundClosing, SpurHeights, ClosedBy, by_end, by_fin, ClosedOnce, EveryList, taken_only, StruckOut}
@@ -46,6 +50,7 @@ module _ (r : Reading) (e : r.stage ≡ Closed) where
       go : (c : Call) → eqb (refusal (staged r Closed) c) 0 ≡ false
       go drop_run = refl
       go drop_section = refl
+      go (constants first second) = met (input_tests (constants first second)) 43 refl refl
       go c = met (input_tests c) 21 refl refl
 
   shut_stays : (cs : List Call) → after r cs ≡ r
@@ -111,6 +116,7 @@ ended_stage r class (Some w) n = refl
 stays_open : (r : Reading) (c : Call) → is_closing c ≡ false → NotClosed r → NotClosed (taken r c)
 stays_open r (open_line o i m h) e n = open_not_closed
 stays_open r (open_spur o i m h) e n = open_not_closed
+stays_open r (constants first second) e n = open_not_closed
 stays_open r (end_run m) e n = λ k. n (sym (ended_stage r r.opening.class r.waiting m) ∙ k)
 stays_open r (close_line m h) e n = no_true (sym e)
 stays_open r (close_spur m) e n = no_true (sym e)
@@ -164,13 +170,17 @@ none_given (c ∷ cs) r n = λ i. gives_none c cs r n i ++ none_given cs (next r
 
 -- ---- and soundly
 
+some_units : (c : Staffs) → 0 < 4 * scale_of c
+some_units Nominal = omega arith
+some_units (Measured first second) = omega arith
+
 module _ (v : LineState) where
   abbrev o : Opening
   o = v.line.opening
 
   -- the line's frame, and its closing, by whether it is tied to a known height
   abbrev framed : Bool → Frame
-  framed t = frame quarters wholes o.start.height (record { closure = cond t (closure quarters o.start.height v.line.end v.sections) (pos 0); distance = line_length v.sections })
+  framed t = frame (units_of o.staffs) wholes o.start.height (record { closure = cond t (closure (units_of o.staffs) o.start.height v.line.end v.sections) (pos 0); distance = line_length v.sections })
 
   abbrev closed_with : Bool → Closing
   closed_with t =
@@ -180,19 +190,19 @@ module _ (v : LineState) where
   module _ (h : pos 1 ≤ℤ line_length v.sections) where
     ends : (t : Bool) → Ends t v.line.end (closed_with t)
     ends true =
-        let s = line_sound 4 (omega arith) wholes v.sections h o.start.height v.line.end in
+        let s = line_sound (4 * scale_of o.staffs) (some_units o.staffs) wholes v.sections h o.start.height v.line.end in
         record { used_up = +ℤ_idl _ ∙ s.used_up; last = s.last ∙ one_mulℤ v.line.end }
     ends false = refl
 
     sound : SoundClosing v (closing o v.line.end v.sections)
-    sound = record { figures = refl; long = h; near = line_near 4 (omega arith) wholes v.sections h o.start.height (framed (terms_of o.class).tied).closure; ends = ends (terms_of o.class).tied }
+    sound = record { figures = refl; long = h; near = line_near (4 * scale_of o.staffs) (some_units o.staffs) wholes v.sections h o.start.height (framed (terms_of o.class).tied).closure; ends = ends (terms_of o.class).tied }
 
 pub spur_heights : SpurHeights
 spur_heights v gave s e =
     let heights : List Point → List ℤ = λ ps. map (λ (p : Point). p.height) (others ps) in
     let long = subst (λ (c : Closing). pos 1 ≤ℤ c.summary.distance) s.figures s.long in
     ap (λ (c : Closing). heights c.points) s.figures ∙ ap (λ (t : Bool). heights (closed_with v t).points) e
-    ∙ raw_heights_lem 4 (omega arith) v.line.opening.start.height (line_length v.sections) long v.sections
+    ∙ raw_heights_lem (4 * scale_of v.line.opening.staffs) (some_units v.line.opening.staffs) v.line.opening.start.height (line_length v.sections) long v.sections
 
 -- by END or by FIN: 41 tells which of them closes a line
 closed_by_lem : (r : Reading) (c : Call) → is_closing c ≡ true → refusal r c ≡ 0 → ClosedBy r c

@@ -13,17 +13,19 @@ use lib.ListN.{length, length-append}
 use lib.IntN.{ℤ, pos, nat_abs}
 use lib.Signed.{◌≤ℤ◌, le_z}
 use Rattle.numbers.specs.Tables.{first_of}
-use Rattle.numbers.proofs.Tests.{by_test, holds, no_true, and_l, and_r, or_l, or_r, not-false}
+use Rattle.numbers.proofs.Tests.{by_test, no_true, and_l, and_r, or_l, or_r, not-false}
 use Rattle.numbers.proofs.Tables.{first_skips}
 use Rattle.numbers.proofs.All.{All, all_cons, all_append}
-use Rattle.numbers.proofs.Parts.{ints, parts_abs, test_le}
+use Rattle.numbers.specs.Numbers.{between}
+use Rattle.numbers.proofs.Parts.{ints, parts_abs, pos_abs, test_le}
 use Rattle.station.specs.declared.Staffs.{Staffs}
-use Rattle.station.specs.declared.Staffs.TheVariants.{Nominal}
+use Rattle.station.specs.declared.Staffs.TheVariants.{Nominal, Measured}
 use Rattle.adjust.specs.declared.Opening.{Opening}
 use Rattle.adjust.specs.declared.Section.{Section}
 use Rattle.adjust.specs.declared.terms.Class.TheVariants.{Spur}
+use Rattle.adjust.specs.declared.terms.Root.{Root}
 use Rattle.adjust.specs.declared.terms.Terms.{Terms}
-use Rattle.adjust.specs.Terms.{terms_of}
+use Rattle.adjust.specs.Terms.{terms_of, terms_by}
 use Rattle.adjust.specs.Sections.{section_fits, misfit, height_in_range}
 use Rattle.adjust.specs.Line.{line_length}
 use Rattle.adjust.proofs.Classes.{row}
@@ -34,11 +36,12 @@ use Rattle.rules.specs.declared.Stage.TheVariants.{Fresh, Open, Closed}
 use Rattle.rules.specs.declared.Run.{Run}
 use Rattle.rules.specs.declared.Line.{Line}
 use Rattle.rules.specs.declared.Outward.{Outward}
-use Rattle.rules.specs.LineState.{LineState, is_fresh, is_open, is_closed, is_shut, is_empty, is_return, outward_or_return, no_run, one_way, both_ways, waiting_broken, misplaced, line_broken}
+use Rattle.rules.specs.LineState.{LineState, is_fresh, is_open, constants_in_range, staffs_fit, is_closed, is_shut, is_empty, is_return, outward_or_return, no_run, one_way, both_ways, waiting_broken, misplaced, line_broken}
 use Rattle.rules.specs.declared.call.Call.{Call}
-use Rattle.rules.specs.declared.call.Call.TheVariants.{OpenLine as open_line, Station as station, EndRun as end_run, DropRun as drop_run, DropSection as drop_section, CloseLine as close_line, OpenSpur as open_spur, CloseSpur as close_spur, Collimation as collimation}
-use Rattle.rules.specs.Rules.{is_closing, broken, input_tests, state_tests, refusal, book_refusal, number_in_range, discrepancy_within, class_of, opening_of, begun, closed_at, with_runs, with_section, run_ended, taken}
+use Rattle.rules.specs.declared.call.Call.TheVariants.{OpenLine as open_line, Station as station, EndRun as end_run, DropRun as drop_run, DropSection as drop_section, CloseLine as close_line, OpenSpur as open_spur, CloseSpur as close_spur, Collimation as collimation, Constants as constants}
+use Rattle.rules.specs.Rules.{is_closing, broken, input_tests, state_tests, refusal, book_refusal, number_in_range, discrepancy_within, class_of, opening_of, collimated, measured, begun, closed_at, with_opening, with_runs, with_section, run_ended, taken}
 use Rattle.rules.proofs.Tables.{fails}
+use Rattle.rules.proofs.Unbroken.{fresh_none, untouched_none}
 use Rattle.ledger.specs.Plain as Plain
 use Rattle.ledger.specs.Plain.{Reading, fresh_reading, after, next, plain_state}
 use Rattle.ledger.proofs.Follows.{follows}
@@ -71,8 +74,8 @@ pub record Kept (v : LineState) : Type 0 where
   -- what the report's fields ask
   pub number : nat_abs v.line.opening.start.number ≤ 9999
   pub narrow_sections : All (narrow v.line.opening.staffs) v.sections
-  -- no call gives other constants
-  pub nominal : v.line.opening.staffs ≡ Nominal
+  -- measured constants are in their ranges
+  pub staffs : staffs_fit v.line.opening.staffs ≡ true
 
 -- so the test of 20 does not hold
 pub kept_unbroken : (v : LineState) → Kept v → (c : Call) → broken v c ≡ false
@@ -80,7 +83,7 @@ unfolding line_broken
 kept_unbroken v i call =
     λ j. (none (is_closing call) j
     || (not (le-leb (length v.sections) 64 i.few j) || not (run_fits_lem c v.line.present i.present j) || waits v.line.waiting i.waiting j || not (i.start j) || not (i.end j)
-    || i.placed j))
+    || not (i.staffs j) || i.placed j))
   where
     c : Staffs
     c = v.line.opening.staffs
@@ -93,13 +96,14 @@ kept_unbroken v i call =
     waits None k = refl
     waits (Some w) k = λ j. not (run_fits_lem c w.run k.0 j) || lt-leb 64 (length v.sections) k.1 j
 
--- an open line is not fresh: what is left to see is what waits
+-- where a call was taken since an open line was opened, what is left to see is what waits
 abbrev stray : LineState → Bool
 stray v = is_return v.line.waiting && not (terms_of v.line.opening.class).double
 
 no_stray : (v : LineState) → Kept v → stray v ≡ false
 no_stray v i =
-    let full = is_fresh v.line.stage && not (eqb (length v.sections) 0 && eqb v.line.present.count 0 && not (is_return v.line.waiting)) in
+    let new = is_fresh v.line.stage || not v.line.opening.touched in
+    let full = new && not (eqb (length v.sections) 0 && eqb v.line.present.count 0 && not (is_return v.line.waiting)) in
     or_r full (stray v) (or_l (full || stray v) (is_closed v.line.stage && eqb (length v.sections) 0) i.placed)
 
 not_fresh : (s : Stage) → is_open s ≡ true → is_fresh s ≡ false
@@ -107,9 +111,9 @@ not_fresh Fresh e = no_true e
 not_fresh Open e = refl
 not_fresh Closed e = refl
 
-open_placed : (l : Line) (n : ℕ) → is_open l.stage ≡ true → is_return l.waiting && not (terms_of l.opening.class).double ≡ false → misplaced l n ≡ false
-open_placed l n o e =
-    λ j. (not_fresh l.stage o j && not (eqb n 0 && eqb l.present.count 0 && not (is_return l.waiting))) || e j || (not_shut l.stage o j && eqb n 0)
+open_placed : (l : Line) (n : ℕ) → is_open l.stage ≡ true → l.opening.touched ≡ true → is_return l.waiting && not (terms_of l.opening.class).double ≡ false → misplaced l n ≡ false
+open_placed l n o t e =
+    λ j. ((not_fresh l.stage o j || not (t j)) && not (eqb n 0 && eqb l.present.count 0 && not (is_return l.waiting))) || e j || (not_shut l.stage o j && eqb n 0)
   where
     not_shut : (s : Stage) → is_open s ≡ true → is_closed s ≡ false
     not_shut Fresh e = refl
@@ -119,7 +123,7 @@ open_placed l n o e =
 -- other runs beside the same sections
 runs_kept : (v : LineState) (w : Option Outward) (u : Run) → Kept v → is_open v.line.stage ≡ true → Awaits v.line.opening.staffs (length v.sections) w → Sized v.line.opening.staffs u
     → is_return w && not (terms_of v.line.opening.class).double ≡ false → Kept (record { line = with_runs v.line w u; sections = v.sections })
-runs_kept v w u i o k h e = assumption (open_placed (with_runs v.line w u) (length v.sections) o e)
+runs_kept v w u i o k h e = assumption (open_placed (with_runs v.line w u) (length v.sections) o refl e)
 
 -- ---- the end of a run
 
@@ -136,10 +140,10 @@ section_kept v x i o room e n =
       start = i.start;
       end = i.end;
       closed = λ c. rw (length-append v.sections (x ∷ [])) (omega arith);
-      placed = open_placed (with_section v x).line (length (with_section v x).sections) o refl;
+      placed = open_placed (with_section v x).line (length (with_section v x).sections) o refl refl;
       number = i.number;
       narrow_sections = all_append (narrow c) v.sections (x ∷ []) i.narrow_sections (all_cons (narrow c) x [] n refl);
-      nominal = i.nominal;
+      staffs = i.staffs;
     }
 
 number_size : (n : ℤ) → number_in_range n ≡ true → nat_abs n ≤ 9999
@@ -173,8 +177,11 @@ run_kept v number i e =
     terms : Terms
     terms = terms_of v.line.opening.class
 
+    apart : Root
+    apart = (terms_by c v.line.opening.class).apart
+
     go : (w : Option Outward) (t : Bool) → terms.double ≡ t → 0 < u.count → Awaits c n w → not (is_return w) && leb 64 n ≡ false
-        → outward_or_return w false (λ outward run. not (discrepancy_within terms.apart (both_ways outward run u))) ≡ false
+        → outward_or_return w false (λ outward run. not (discrepancy_within apart (both_ways outward run u))) ≡ false
         → Kept (outward_or_return w
         (cond t (record { line = with_runs v.line (Some (record { number = number; run = u })) no_run; sections = v.sections }) (with_section v (one_way number u)))
         (λ outward run. with_section v (both_ways outward run u)))
@@ -184,8 +191,8 @@ run_kept v number i e =
         section_kept v (one_way number u) i running (leb-false 64 n room) (one_way_fits c number u i.present some) (one_way_narrow c number u small i.present)
     go (Some w) t both some k room d =
         let x = both_ways w.number w.run u in
-        let near = not-false (discrepancy_within terms.apart x) d in
-        section_kept v x i running k.1 (both_ways_fits c terms (row v.line.opening.class) w.number w.run u k.0 i.present some near)
+        let near = not-false (discrepancy_within apart x) d in
+        section_kept v x i running k.1 (both_ways_fits c (terms_by c v.line.opening.class) (row c v.line.opening.class) w.number w.run u k.0 i.present some near)
         (both_ways_narrow c w.number w.run u k.2 k.0 i.present)
 
 -- ---- a call
@@ -199,23 +206,41 @@ running_station v kb kf readings e =
     not-false (is_open v.line.stage)
     (or_l (not (is_open v.line.stage)) (is_shut v) (fails v (station kb kf readings) e 21))
 
--- a line that is opened, by the tests 4 and 5
-opened_kept : (o : Opening) → not (number_in_range o.start.number) ≡ false → not (height_in_range o.start.height) ≡ false → o.staffs ≡ Nominal
-    → Kept (record { line = begun o; sections = [] })
-opened_kept o four five nominal =
+-- an open line with nothing in it
+begun_kept : (o : Opening) → nat_abs o.start.number ≤ 9999 → height_in_range o.start.height ≡ true → staffs_fit o.staffs ≡ true → Kept (record { line = begun o; sections = [] })
+begun_kept o number start staffs =
     record {
       few = omega arith;
       fit = refl;
       present = no_run_sized o.staffs;
       waiting = tt;
-      start = not-false (height_in_range o.start.height) five;
+      start = start;
       end = refl;
       closed = λ c. absurd (open_not_closed c);
-      placed = refl;
-      number = number_size o.start.number (not-false (number_in_range o.start.number) four);
+      placed = λ j. nothing (not o.touched) j || false || false;
+      number = number;
       narrow_sections = refl;
-      nominal = nominal;
+      staffs = staffs;
     }
+  where
+    nothing : (t : Bool) → t && false ≡ false
+    nothing true = refl
+    nothing false = refl
+
+-- one that is opened, by the tests 4 and 5
+opened_kept : (o : Opening) → not (number_in_range o.start.number) ≡ false → not (height_in_range o.start.height) ≡ false → staffs_fit o.staffs ≡ true
+    → Kept (record { line = begun o; sections = [] })
+opened_kept o four five = begun_kept o (number_size o.start.number (not-false (number_in_range o.start.number) four)) (not-false (height_in_range o.start.height) five)
+
+-- constants in their ranges, as the line holds them
+given_fit : (first second : ℤ) → constants_in_range first second ≡ true → staffs_fit (Measured (nat_abs first) (nat_abs second)) ≡ true
+given_fit first second e =
+    let a = between (pos 46770) first (pos 46970) in
+    let b = between (pos 47770) second (pos 47970) in
+    (λ j. constants_in_range (same 46770 46970 first (and_l a b e) j) (same 47770 47970 second (and_r a b e) j)) ∙ e
+  where
+    same : (low high : ℕ) (x : ℤ) → between (pos low) x (pos high) ≡ true → pos (nat_abs x) ≡ x
+    same low high x e = let least : pos low ≤ℤ x = test_le (and_l (le_z (pos low) x) (le_z x (pos high)) e) in pos_abs (omega (ints, least))
 
 -- one that is closed on a height in range, by the test 33
 closed_kept : (v : LineState) (end : ℤ) → Kept v → height_in_range end ≡ true → not (eqb v.line.present.count 0) || is_return v.line.waiting || is_empty v.sections ≡ false
@@ -239,19 +264,14 @@ taken_kept v (close_line number end) i e =
 taken_kept v (open_spur order instrument number height) i e =
     let test = fails v (open_spur order instrument number height) e in opened_kept (opening_of Spur instrument number height) (test 4) (test 5) refl
 taken_kept v (close_spur number) i e = closed_kept v (pos 0) i refl (fails v (close_spur number) e 33)
-taken_kept v (collimation x) i e = assumption
+taken_kept v (collimation x) i e =
+    let running : is_open v.line.stage ≡ true = not-false (is_open v.line.stage) (fails v (collimation x) e 21) in
+    assumption (open_placed (with_opening v.line (collimated v.line.opening)) (length v.sections) running refl (no_stray v i))
+taken_kept v (constants first second) i e =
+    begun_kept (measured v.line.opening first second) i.number i.start
+    (given_fit first second (not-false (constants_in_range first second) (fails v (constants first second) e 42)))
 
--- ---- no call shortens the list of sections: one that opens a line finds none
-
-fresh_none : (v : LineState) → Kept v → is_fresh v.line.stage ≡ true → length v.sections ≡ 0
-fresh_none v i e =
-    let n = eqb (length v.sections) 0 in
-    let u = eqb v.line.present.count 0 in
-    let w = not (is_return v.line.waiting) in
-    let shut = is_closed v.line.stage && n in
-    let full = or_l (is_fresh v.line.stage && not (n && u && w)) (stray v) (or_l (is_fresh v.line.stage && not (n && u && w) || stray v) shut i.placed) in
-    let empty = not-false (n && u && w) (sym (λ j. e j && not (n && u && w)) ∙ full) in
-    eqb→eq (length v.sections) 0 (holds (and_l n u (and_l (n && u) w empty)))
+-- ---- no call shortens the list of sections: one that begins a line finds none
 
 run_longer : (v : LineState) (number : ℤ) (w : Option Outward) (t : Bool)
     → length v.sections
@@ -264,10 +284,12 @@ run_longer v number (Some w) t = rw (length-append v.sections (both_ways w.numbe
 
 pub no_shorter : (v : LineState) (c : Call) → Kept v → refusal v c ≡ 0 → length v.sections ≤ length (taken v c).sections
 no_shorter v (open_line order instrument number height) i e =
-    omega (arith, fresh_none v i (not-false (is_fresh v.line.stage) (fails v (open_line order instrument number height) e 21)))
+    omega (arith, ap length (fresh_none v.line v.sections (kept_unbroken v i drop_run) (fails v (open_line order instrument number height) e 21)))
 no_shorter v (end_run number) i e = run_longer v number v.line.waiting (terms_of v.line.opening.class).double
 no_shorter v (open_spur order instrument number height) i e =
-    omega (arith, fresh_none v i (not-false (is_fresh v.line.stage) (fails v (open_spur order instrument number height) e 21)))
+    omega (arith, ap length (fresh_none v.line v.sections (kept_unbroken v i drop_run) (fails v (open_spur order instrument number height) e 21)))
+no_shorter v (constants first second) i e =
+    omega (arith, ap length (untouched_none v.line v.sections (kept_unbroken v i drop_run) (fails v (constants first second) e 43)))
 no_shorter v c i e = le_refl (length v.sections)
 
 -- ---- a list of calls
@@ -294,7 +316,7 @@ fresh_kept =
       placed = refl;
       number = omega arith;
       narrow_sections = refl;
-      nominal = refl;
+      staffs = refl;
     }
 
 pub calls_kept : (calls : List Call) → Kept (plain_state (after fresh_reading calls))

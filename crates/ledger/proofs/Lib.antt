@@ -8,3 +8,4 @@ pub mod Every
 pub mod Again
 pub mod Traced
 pub mod Entries
+pub mod Cancel

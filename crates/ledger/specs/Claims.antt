@@ -1,17 +1,21 @@
 -- What is claimed of every list of calls from a fresh book: of the closing taken in it (demand 3 of document 01; for spurs document 02, W-202), of the order of refusals, and of refused
--- and dropped calls.
-use Rattle.std.specs.Prelude.{◌≡◌, Bool, true, false, cond, List, [], ◌∷◌, ◌++◌, map, eqb, ℤ, pos, neg_ℤ, ◌*ℤ◌, ◌≤ℤ◌, None}
+-- and dropped calls, and of the heights of runs by measured constants (document 02, W-203).
+use Rattle.std.specs.Prelude.{◌≡◌, Bool, true, false, cond, ◌&&◌, List, [], ◌∷◌, ◌++◌, map, ℕ, ◌%◌, length, eqb, ℤ, pos, nat_abs, neg_ℤ, ◌*ℤ◌, ◌≤ℤ◌, None}
+use Rattle.numbers.specs.Numbers.{eq_z}
 use Rattle.numbers.specs.Tables.{Lowest}
+use Rattle.station.specs.declared.Staffs.TheVariants.{Nominal, Measured}
+use Rattle.station.specs.declared.Station.{Station}
+use Rattle.station.specs.Station.{constants_paired}
 use Rattle.adjust.specs.declared.Point.{Point}
 use Rattle.adjust.specs.Terms.{terms_of}
-use Rattle.adjust.specs.Line.{quarters, line_frame, Closing, closing}
+use Rattle.adjust.specs.Line.{units_of, line_frame, Closing, closing}
 use Rattle.adjust.specs.Claims.{Near, corrections, last_height, raw_heights}
 use Rattle.rules.specs.declared.Stage.TheVariants.{Open, Closed}
 use Rattle.rules.specs.LineState.{LineState}
 use Rattle.rules.specs.declared.call.Call.{Call}
 use Rattle.rules.specs.declared.call.Call.TheVariants.{DropRun as drop_run, DropSection as drop_section, CloseLine as close_line, CloseSpur as close_spur}
 use Rattle.rules.specs.Rules.{book_tests, book_refusal, rank}
-use Rattle.ledger.specs.Plain.{Reading, fresh_reading, after, next, taken, refusal, plain_state, with_lists, closings}
+use Rattle.ledger.specs.Plain.{Reading, fresh_reading, after, next, taken, refusal, plain_state, run_of, with_lists, closings}
 
 -- ---- a closing
 
@@ -45,7 +49,8 @@ pub record SoundClosing (v : LineState) (gave : Closing) : Type 0 where
 abbrev pub SpurHeights : Type 0
 SpurHeights =
     (v : LineState) (gave : Closing) → SoundClosing v gave → (terms_of v.line.opening.class).tied ≡ false
-    → map (λ (p : Point). p.height) (others gave.points) ≡ raw_heights 4 (quarters *ℤ v.line.opening.start.height) v.sections
+    → let units : ℤ = units_of v.line.opening.staffs in
+    map (λ (p : Point). p.height) (others gave.points) ≡ raw_heights (nat_abs units) (units *ℤ v.line.opening.start.height) v.sections
 
 -- the call that closes a line: END where it is tied to a known height, and FIN where it is not, as on a spur
 pub data ClosedBy (r : Reading) : Call → Type 0 where
@@ -104,3 +109,18 @@ abbrev pub SectionDropped : Type 0
 SectionDropped =
     (r : Reading) (calls : List Call) → (after r calls).stage ≡ Open → (after r calls).sections ≡ r.sections
     → after r (calls ++ (drop_section ∷ [])) ≡ with_lists (after r calls) r.sections None []
+
+-- ---- measured constants
+
+-- the stations of a run in which the staffs take turns: each has both staffs, and its back staff is the fore staff of the one before
+abbrev pub in_turn : List Station → Bool
+in_turn [] = true
+in_turn (x ∷ []) = constants_paired x
+in_turn (x ∷ (y ∷ ys)) = constants_paired x && eq_z y.back.constant x.fore.constant && in_turn (y ∷ ys)
+
+-- in a run that may be ended, of an even number of stations, the constants cancel: whatever was measured, its height is the one by the nominal constants, in tenths.
+-- So no height, D, Q, W or correction shows them, but the tests 27 and 28 and the present run do
+abbrev pub ConstantsCancel : Type 0
+ConstantsCancel =
+    (first second : ℕ) (xs : List Station) → in_turn xs ≡ true → length xs % 2 ≡ 0
+    → (run_of (Measured first second) xs).height ≡ pos 10 *ℤ (run_of Nominal xs).height

@@ -20,8 +20,8 @@ use Rattle.rules.specs.LineState.{LineState, book_with, one_way, both_ways}
 use Rattle.book.specs.Calls.{fresh_book}
 use Rattle.rules.specs.Rules as Rules
 use Rattle.rules.specs.declared.call.Call.{Call}
-use Rattle.rules.specs.declared.call.Call.TheVariants.{OpenLine as open_line, Station as station, EndRun as end_run, DropRun as drop_run, DropSection as drop_section, CloseLine as close_line, OpenSpur as open_spur, CloseSpur as close_spur, Collimation as collimation}
-use Rattle.rules.specs.Rules.{class_of, opening_of, unopened, collimated, is_closing}
+use Rattle.rules.specs.declared.call.Call.TheVariants.{OpenLine as open_line, Station as station, EndRun as end_run, DropRun as drop_run, DropSection as drop_section, CloseLine as close_line, OpenSpur as open_spur, CloseSpur as close_spur, Collimation as collimation, Constants as constants}
+use Rattle.rules.specs.Rules.{class_of, opening_of, unopened, touched, collimated, measured, is_closing}
 
 -- a finished section: its number, its outward list and, where it was levelled both ways, its return list
 pub record Levelled : Type 0 where
@@ -36,7 +36,7 @@ pub record Awaited : Type 0 where
 
 pub record Reading : Type 0 where
   pub stage : Stage
-  -- and whether the level's collimation was tested since
+  -- with the staffs' constants, and whether the level's collimation was tested and whether any call was taken since
   pub opening : Opening
   -- the end height; a placeholder until the line is closed, and on a spur
   pub end : ℤ
@@ -88,9 +88,9 @@ book_of r = book_with fresh_book (plain_state r)
 
 -- ---- what is kept of a call that is taken
 
--- the reading with other lists
+-- the reading with other lists, after a call that is taken
 abbrev pub with_lists : Reading → List Levelled → Option Awaited → List Station → Reading
-with_lists r sections waiting present = record r { sections = sections; waiting = waiting; present = present }
+with_lists r sections waiting present = record r { opening = touched r.opening; sections = sections; waiting = waiting; present = present }
 
 abbrev pub run_ended : Reading → ℤ → Reading
 run_ended r number = go r.waiting
@@ -105,7 +105,7 @@ run_ended r number = go r.waiting
         (finished (record { number = number; outward = r.present; back = None }))
     go (Some w) = finished (record { number = w.number; outward = w.outward; back = Some r.present })
 
--- a line that is opened has nothing in any list
+-- a line that is opened has nothing in any list, nor has one whose staffs' constants are given
 abbrev pub opened : Opening → Reading
 opened o =
     record {
@@ -118,7 +118,7 @@ opened o =
     }
 
 abbrev pub closed_on : Reading → ℤ → Reading
-closed_on r end = record r { stage = Closed; end = end }
+closed_on r end = record r { stage = Closed; opening = touched r.opening; end = end }
 
 abbrev pub taken : Reading → Call → Reading
 taken r (open_line order instrument number height) = opened (opening_of (class_of order) instrument number height)
@@ -131,6 +131,8 @@ taken r (open_spur order instrument number height) = opened (opening_of Spur ins
 -- a spur has no end height: 0 stands for it
 taken r (close_spur number) = closed_on r (pos 0)
 taken r (collimation x) = record r { opening = collimated r.opening }
+-- these are the constants of every station to come: none was taken
+taken r (constants first second) = opened (measured r.opening first second)
 
 -- ---- a list of calls
 

@@ -13,7 +13,7 @@ use Rattle.rules.specs.declared.Book.{Book}
 use Rattle.book.specs.declared.Outcome.{Outcome}
 use Rattle.rules.specs.LineState.{state_of}
 use Rattle.rules.specs.declared.call.Call.{Call}
-use Rattle.rules.specs.declared.call.Call.TheVariants.{OpenLine as open_line, Station as station, EndRun as end_run, DropRun as drop_run, DropSection as drop_section, CloseLine as close_line, OpenSpur as open_spur, CloseSpur as close_spur, Collimation as collimation}
+use Rattle.rules.specs.declared.call.Call.TheVariants.{OpenLine as open_line, Station as station, EndRun as end_run, DropRun as drop_run, DropSection as drop_section, CloseLine as close_line, OpenSpur as open_spur, CloseSpur as close_spur, Collimation as collimation, Constants as constants}
 use Rattle.rules.specs.Rules.{is_closing}
 use Rattle.adjust.specs.Frames.{adjusted_of}
 use Rattle.book.specs.Calls.{gave_of}
@@ -27,6 +27,7 @@ use Rattle.book.proofs.calls.close_line.Reads as close_line_reads
 use Rattle.book.proofs.calls.open_spur.Reads as open_spur_reads
 use Rattle.book.proofs.calls.close_spur.Reads as close_spur_reads
 use Rattle.book.proofs.calls.collimation.Reads as collimation_reads
+use Rattle.book.proofs.calls.constants.Reads as constants_reads
 use Rattle.book.proofs.calls.figures_of.Reads as figures_of_reads
 use Rattle.book.proofs.calls.take.Reads as take_reads
 use Rattle.book.proofs.calls.enter.Reads as enter_reads
@@ -49,6 +50,7 @@ Ensures b (open_spur order instrument number height) r =
     open_spur_reads.Learnt tt (b, (order, (instrument, (number, (height, tt))))) r (b, (order, (instrument, (number, (height, tt)))))
 Ensures b (close_spur number) r = ⊥
 Ensures b (collimation x) r = collimation_reads.Learnt tt (b, (x, tt)) r (b, (x, tt))
+Ensures b (constants first second) r = constants_reads.Learnt tt (b, (first, (second, tt))) r (b, (first, (second, tt)))
 
 -- and of a closing
 abbrev pub CloseEnsures : Book → Call → Outcome LineFigures → Type 0
@@ -61,6 +63,7 @@ CloseEnsures b (close_line number end) r = close_line_reads.Learnt tt (b, (numbe
 CloseEnsures b (open_spur order instrument number height) r = ⊥
 CloseEnsures b (close_spur number) r = close_spur_reads.Learnt tt (b, (number, tt)) r (b, (number, tt))
 CloseEnsures b (collimation x) r = ⊥
+CloseEnsures b (constants first second) r = ⊥
 
 abbrev pub FiguresEnsures : Book → Result LineFigures Refusal → Type 0
 FiguresEnsures b f = figures_of_reads.Learnt tt (b, tt) f (b, tt)

@@ -1,9 +1,9 @@
--- The starred lines of document 01, 'Checked by hand', as one fact that the rules compute; a spur, short sections and the collimation test (document 02, W-202, W-201 and W-204) as others.
+-- The starred lines of document 01, 'Checked by hand', as one fact that the rules compute; a spur, short sections, the collimation test and measured constants (document 02, W-202, W-201, W-204 and W-203) as others.
 use Rattle.std.specs.Prelude.{◌≡◌, refl, List, [], ◌∷◌, ◌++◌, map, ℕ, ◌+◌, ◌-◌, ℤ, pos, neg_ℤ, ◌*ℤ◌}
 use Rattle.roots.specs.Round.{round_even}
 use Rattle.roots.specs.Limit.{is_within}
 use Rattle.collimation.specs.Collimation.{within_angle}
-use Rattle.station.specs.declared.Staffs.TheVariants.{Nominal}
+use Rattle.station.specs.declared.Staffs.TheVariants.{Nominal, Measured}
 use Rattle.station.specs.declared.Station.{Station}
 use Rattle.station.specs.Station.{station_of, sight_difference, face_difference, twice_height}
 use Rattle.adjust.specs.declared.Section.{Section}
@@ -12,7 +12,7 @@ use Rattle.adjust.specs.declared.Frame.{Frame}
 use Rattle.adjust.specs.Line.{quarters, wholes, frame_of, exact_top, closure, Closing, accidental}
 use Rattle.rules.specs.LineState.{LineState, outward_or_return, both_ways}
 use Rattle.rules.specs.declared.call.Call.{Call}
-use Rattle.rules.specs.declared.call.Call.TheVariants.{OpenLine as open_line, Station as station, EndRun as end_run, CloseLine as close_line, OpenSpur as open_spur, CloseSpur as close_spur, Collimation as collimation}
+use Rattle.rules.specs.declared.call.Call.TheVariants.{OpenLine as open_line, Station as station, EndRun as end_run, CloseLine as close_line, OpenSpur as open_spur, CloseSpur as close_spur, Collimation as collimation, DropRun as drop_run, DropSection as drop_section, Constants as constants}
 use Rattle.ledger.specs.Plain.{fresh_reading, after, refusals, plain_state, run_of, closings}
 
 -- ---- the stations of case A
@@ -270,3 +270,80 @@ pub tested_first : refusals fresh_reading (tested ∷ open4 10000 ∷ a1 ∷ unt
     ≡ 21 ∷ 0 ∷ 46 ∷ 45 ∷ 46 ∷ 44 ∷ 0 ∷ 0 ∷ 45 ∷ []
 unfolding within_angle
 tested_first = refl
+
+-- ---- measured constants
+
+abbrev measured : ℕ → ℕ → Call
+measured first second = constants (pos first) (pos second)
+
+-- the nominal constants, given in tenths
+abbrev given : Call
+given = measured 46870 47870
+
+-- A's section 1 alone and at third order out and back, as above, with constants after it is opened
+abbrev one_measured : ℕ → List Call
+one_measured end = open4 10000 ∷ measured 46850 47870 ∷ tested ∷ a1 ∷ a2 ∷ end_run (pos 2) ∷ close_line (pos 2) (pos end) ∷ []
+
+abbrev back_measured : ℕ → List Call
+back_measured red =
+    third ∷ measured 46875 47865 ∷ tested ∷ a1 ∷ a2 ∷ end_run (pos 2)
+    ∷ station (pos 4687) (pos 4787) back_readings1 ∷ station (pos 4787) (pos 4687) (back_readings2 1380 red) ∷ end_run (pos 1) ∷ []
+
+-- the sections in tenths, and their limits in millimetres
+pub record MeasuredWorked : Type 0 where
+  -- e of the fore staff: 30 tenths of a millimetre are within 3 mm, 31 are not
+  pub e30 : (face_difference (Measured 46850 47870) s1.fore ≡ neg_ℤ (pos 30)) × (refusals fresh_reading (open4 10000 ∷ measured 46850 47870 ∷ tested ∷ a1 ∷ []) ≡ 0 ∷ 0 ∷ 0 ∷ 0 ∷ [])
+  pub e31 : (face_difference (Measured 46849 47870) s1.fore ≡ neg_ℤ (pos 31)) × (refusals fresh_reading (open4 10000 ∷ measured 46849 47870 ∷ tested ∷ a1 ∷ []) ≡ 0 ∷ 0 ∷ 0 ∷ 27 ∷ [])
+  -- A's section 1 with W 280 and 320
+  pub w280 : closures (closings fresh_reading (one_measured 10651)) ≡ pos 280 ∷ []
+  pub w280_taken : refusals fresh_reading (one_measured 10651) ≡ 0 ∷ 0 ∷ 0 ∷ 0 ∷ 0 ∷ 0 ∷ 0 ∷ []
+  pub w320 : closure (pos 40) (pos 10000) (pos 10650) (plain_state (after fresh_reading (one_measured 10650))).sections ≡ pos 320
+  pub w320_refused : refusals fresh_reading (one_measured 10650) ≡ 0 ∷ 0 ∷ 0 ∷ 0 ∷ 0 ∷ 0 ∷ 36 ∷ []
+  pub heights_whole : heights (closings fresh_reading (one_measured 10651)) ≡ (pos 10000 ∷ pos 10651 ∷ []) ∷ []
+  pub corrections_in_tenths : corrected (closings fresh_reading (one_measured 10651)) ≡ (pos 0 ∷ neg_ℤ (pos 280) ∷ []) ∷ []
+  -- R 2564: the end of a return with D 80 is taken, with D 90 refused
+  pub d80 : (plain_state (after fresh_reading (back_measured 6067))).sections ≡ section 2 26240 2564 80 ∷ []
+  pub d80_taken : refusals fresh_reading (back_measured 6067) ≡ 0 ∷ 0 ∷ 0 ∷ 0 ∷ 0 ∷ 0 ∷ 0 ∷ 0 ∷ 0 ∷ []
+  pub d90_refused : refusals fresh_reading (back_measured 6066) ≡ 0 ∷ 0 ∷ 0 ∷ 0 ∷ 0 ∷ 0 ∷ 0 ∷ 0 ∷ 32 ∷ []
+  -- t has the unit that it has by nominal constants
+  pub t : accidental 100 (section 2 0 20000 240) ≡ pos 14400
+  -- outside the ranges, on a fresh book too
+  pub range : refusals fresh_reading (measured 46769 47870 ∷ measured 46971 47870 ∷ measured 46870 47769 ∷ measured 46870 47971 ∷ []) ≡ 42 ∷ 42 ∷ 42 ∷ 42 ∷ []
+  pub range_ends : (refusals fresh_reading (open4 10000 ∷ measured 46770 47970 ∷ []) ≡ 0 ∷ 0 ∷ []) × (refusals fresh_reading (spur ∷ measured 46970 47770 ∷ []) ≡ 0 ∷ 0 ∷ [])
+  -- out of place: on a fresh book; after constants, the collimation test, a station, a dropped run and a dropped section that were taken; on a closed book. A refused call does not count
+  pub place_fresh : refusals fresh_reading (given ∷ []) ≡ 43 ∷ []
+  pub place_constants : refusals fresh_reading (open4 10000 ∷ given ∷ given ∷ []) ≡ 0 ∷ 0 ∷ 43 ∷ []
+  pub place_tested : refusals fresh_reading (open4 10000 ∷ tested ∷ given ∷ []) ≡ 0 ∷ 0 ∷ 43 ∷ []
+  pub place_station : refusals fresh_reading (open4 10000 ∷ tested ∷ a1 ∷ given ∷ []) ≡ 0 ∷ 0 ∷ 0 ∷ 43 ∷ []
+  pub place_drop : refusals fresh_reading (open4 10000 ∷ drop_run ∷ given ∷ []) ≡ 0 ∷ 0 ∷ 43 ∷ []
+  pub place_drop_section : refusals fresh_reading (open4 10000 ∷ drop_section ∷ given ∷ []) ≡ 0 ∷ 0 ∷ 43 ∷ []
+  pub place_closed : refusals (after fresh_reading (one_measured 10651)) (given ∷ []) ≡ 43 ∷ []
+  pub place_refused : refusals fresh_reading (open4 10000 ∷ a1 ∷ measured 46769 47870 ∷ given ∷ []) ≡ 0 ∷ 46 ∷ 42 ∷ 0 ∷ []
+
+pub measured_worked : MeasuredWorked
+unfolding round_even is_within within_angle
+measured_worked =
+    record {
+      e30 = (refl, refl);
+      e31 = (refl, refl);
+      w280 = refl;
+      w280_taken = refl;
+      w320 = refl;
+      w320_refused = refl;
+      heights_whole = refl;
+      corrections_in_tenths = refl;
+      d80 = refl;
+      d80_taken = refl;
+      d90_refused = refl;
+      t = refl;
+      range = refl;
+      range_ends = (refl, refl);
+      place_fresh = refl;
+      place_constants = refl;
+      place_tested = refl;
+      place_station = refl;
+      place_drop = refl;
+      place_drop_section = refl;
+      place_closed = refl;
+      place_refused = refl;
+    }

@@ -8,7 +8,7 @@ use lib.Dec.{T, eqb, eqb→eq}
 use Rattle.std.specs.Prelude.{Ok, Err, IfOk}
 use Rattle.std.specs.declared.result.Result.{Result}
 use Rattle.records.specs.declared.Refusal.{Refusal}
-use Rattle.records.specs.declared.Refusal.TheVariants.{NotARecord, BadField, OrderOrInstrument, BenchmarkNumber, KnownHeight, Reading, Constants, ThreadOrder, TextTooLong, ReportRoom, SectionCount, SectionRange, HeightRoom, Broken, Stage, RunFull, StaffTurn, Sight, SightDifference, AccumulatedDifference, FaceDifference, HeightByFaces, StationCount, BenchmarkPlace, BookFull, Discrepancy, Unfinished, ClosingBenchmark, LineLength, Closure, ClosingKind, CollimationRange, Collimation, NotCollimated}
+use Rattle.records.specs.declared.Refusal.TheVariants.{NotARecord, BadField, OrderOrInstrument, BenchmarkNumber, KnownHeight, Reading, Constants, ThreadOrder, TextTooLong, ReportRoom, SectionCount, SectionRange, HeightRoom, Broken, Stage, RunFull, StaffTurn, Sight, SightDifference, AccumulatedDifference, FaceDifference, HeightByFaces, StationCount, BenchmarkPlace, BookFull, Discrepancy, Unfinished, ClosingBenchmark, LineLength, Closure, ClosingKind, ConstantsRange, ConstantsPlace, CollimationRange, Collimation, NotCollimated}
 use Rattle.records.specs.Refusals.{refusal_number, number_of, NumbersApart, NoneIsZero}
 
 -- all refusals
@@ -45,6 +45,8 @@ every_refusal =
     ∷ LineLength
     ∷ Closure
     ∷ ClosingKind
+    ∷ ConstantsRange
+    ∷ ConstantsPlace
     ∷ CollimationRange
     ∷ Collimation
     ∷ NotCollimated ∷ []
@@ -89,6 +91,8 @@ read_back ClosingBenchmark = refl
 read_back LineLength = refl
 read_back Closure = refl
 read_back ClosingKind = refl
+read_back ConstantsRange = refl
+read_back ConstantsPlace = refl
 read_back CollimationRange = refl
 read_back Collimation = refl
 read_back NotCollimated = refl

@@ -2,7 +2,7 @@
 use Rattle.std.specs.Prelude.{◌≡◌, ℕ, Ok, Err}
 use Rattle.std.specs.declared.result.Result.{Result}
 use Rattle.records.specs.declared.Refusal.{Refusal}
-use Rattle.records.specs.declared.Refusal.TheVariants.{NotARecord, BadField, OrderOrInstrument, BenchmarkNumber, KnownHeight, Reading, Constants, ThreadOrder, TextTooLong, ReportRoom, SectionCount, SectionRange, HeightRoom, Broken, Stage, RunFull, StaffTurn, Sight, SightDifference, AccumulatedDifference, FaceDifference, HeightByFaces, StationCount, BenchmarkPlace, BookFull, Discrepancy, Unfinished, ClosingBenchmark, LineLength, Closure, ClosingKind, CollimationRange, Collimation, NotCollimated}
+use Rattle.records.specs.declared.Refusal.TheVariants.{NotARecord, BadField, OrderOrInstrument, BenchmarkNumber, KnownHeight, Reading, Constants, ThreadOrder, TextTooLong, ReportRoom, SectionCount, SectionRange, HeightRoom, Broken, Stage, RunFull, StaffTurn, Sight, SightDifference, AccumulatedDifference, FaceDifference, HeightByFaces, StationCount, BenchmarkPlace, BookFull, Discrepancy, Unfinished, ClosingBenchmark, LineLength, Closure, ClosingKind, ConstantsRange, ConstantsPlace, CollimationRange, Collimation, NotCollimated}
 
 abbrev pub refusal_number : Refusal → ℕ
 refusal_number NotARecord = 1
@@ -36,6 +36,8 @@ refusal_number ClosingBenchmark = 34
 refusal_number LineLength = 35
 refusal_number Closure = 36
 refusal_number ClosingKind = 41
+refusal_number ConstantsRange = 42
+refusal_number ConstantsPlace = 43
 refusal_number CollimationRange = 44
 refusal_number Collimation = 45
 refusal_number NotCollimated = 46

@@ -1,4 +1,4 @@
-// The records of a levelling book, one for each call, named by its tag in the text book (document 01, 'The text book and the report'; document 02, W-202 and W-204), and the
+// The records of a levelling book, one for each call, named by its tag in the text book (document 01, 'The text book and the report'; document 02, W-202 to W-204), and the
 // refusals of calls.
 #![tactic(auto)]
 
@@ -25,6 +25,8 @@ pub enum Tag {
     Fin,
     // the collimation test
     Ang,
+    // the staffs' measured constants
+    Kon,
 }
 
 // A record: its tag and its numbers. Places past the numbers that its tag has are not looked at.
@@ -100,6 +102,10 @@ pub enum Refusal {
     Closure = 36,
     // END on a spur, or FIN on a line that is none
     ClosingKind = 41,
+    // a measured constant outside its range
+    ConstantsRange = 42,
+    // measured constants anywhere but directly after the line or the spur was opened
+    ConstantsPlace = 43,
     // a value of the collimation test outside its range
     CollimationRange = 44,
     // an i angle beyond its limit, or a second test taken on a line

@@ -12,7 +12,7 @@ use Rattle.numbers.proofs.Tests.{or_r}
 use Rattle.numbers.proofs.Tables.{each_number, numbered, test_of, failed, rises}
 use Rattle.rules.specs.LineState.{LineState, line_broken}
 use Rattle.rules.specs.declared.call.Call.{Call}
-use Rattle.rules.specs.declared.call.Call.TheVariants.{OpenLine as open_line, Station as station, EndRun as end_run, DropRun as drop_run, DropSection as drop_section, CloseLine as close_line, OpenSpur as open_spur, CloseSpur as close_spur, Collimation as collimation}
+use Rattle.rules.specs.declared.call.Call.TheVariants.{OpenLine as open_line, Station as station, EndRun as end_run, DropRun as drop_run, DropSection as drop_section, CloseLine as close_line, OpenSpur as open_spur, CloseSpur as close_spur, Collimation as collimation, Constants as constants}
 use Rattle.rules.specs.Rules.{is_closing, broken, input_tests, state_tests, refusal, book_tests, book_refusal, rank}
 
 -- a call's tests
@@ -42,6 +42,7 @@ tables v (close_line number end) = search rules
 tables v (open_spur order instrument number height) = search rules
 tables v (close_spur number) = search rules
 tables v (collimation x) = search rules
+tables v (constants first second) = search rules
 
 module _ (v : LineState) (c : Call) where
   pub fails : refusal v c ≡ 0 → (n : ℕ) → test_of n (tests v c) ≡ false

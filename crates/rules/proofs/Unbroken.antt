@@ -19,7 +19,7 @@ use Rattle.rules.specs.declared.Run.{Run}
 use Rattle.rules.specs.declared.Outward.{Outward}
 use Rattle.rules.specs.declared.Line.{Line}
 use Rattle.rules.specs.code.Bounds.{SmallRun, SmallRuns}
-use Rattle.rules.specs.LineState.{is_fresh, is_closed, is_empty, is_return, run_fits, waiting_broken, misplaced, line_broken, most_g, most_s, most_difference}
+use Rattle.rules.specs.LineState.{is_fresh, is_open, is_closed, is_empty, is_return, run_fits, waiting_broken, misplaced, line_broken, staffs_fit, most_g, most_s, most_difference}
 
 pub small_run : (u : Run) → run_fits u ≡ true → SmallRun u
 small_run u e =
@@ -51,6 +51,7 @@ pub record Unbroken (l : Line) (count : ℕ) : Type 0 where
   pub waiting : SmallWaiting l.waiting count
   pub start : height_in_range l.opening.start.height ≡ true
   pub end : height_in_range l.end ≡ true
+  pub staffs : staffs_fit l.opening.staffs ≡ true
   pub placed : misplaced l count ≡ false
 
 pub unbroken : (l : Line) (count : ℕ) → line_broken l count ≡ false → Unbroken l count
@@ -61,7 +62,9 @@ unbroken l count e =
     let w = waiting_broken l.waiting count in
     let s = not (height_in_range l.opening.start.height) in
     let t = not (height_in_range l.end) in
-    let to_end = or_l (n || u || w || s || t) (misplaced l count) e in
+    let k = not (staffs_fit l.opening.staffs) in
+    let to_staffs = or_l (n || u || w || s || t || k) (misplaced l count) e in
+    let to_end = or_l (n || u || w || s || t) k to_staffs in
     let to_start = or_l (n || u || w || s) t to_end in
     let to_waiting = or_l (n || u || w) s to_start in
     let to_present = or_l (n || u) w to_waiting in
@@ -71,7 +74,8 @@ unbroken l count e =
       waiting = small_waiting l.waiting count (or_r (n || u) w to_waiting);
       start = not-false (height_in_range l.opening.start.height) (or_r (n || u || w) s to_start);
       end = not-false (height_in_range l.end) (or_r (n || u || w || s) t to_end);
-      placed = or_r (n || u || w || s || t) (misplaced l count) e;
+      staffs = not-false (staffs_fit l.opening.staffs) (or_r (n || u || w || s || t) k to_staffs);
+      placed = or_r (n || u || w || s || t || k) (misplaced l count) e;
     }
 
 -- a place for each section
@@ -94,27 +98,39 @@ pub some_long : {A : Type 0} (xs : List A) → is_empty xs ≡ false → ltb 0 (
 some_long [] e = no_true (sym e)
 some_long (x ∷ xs) e = lt-ltb 0 (length (x ∷ xs)) (omega arith)
 
--- a fresh book has no section
+-- where no call was taken there is no section
 none_long : {A : Type 0} (xs : List A) → eqb (length xs) 0 ≡ true → xs ≡ []
 none_long [] e = refl
 none_long (x ∷ xs) e = no_true (sym (eqb-suc-zero (length xs)) ∙ e)
 
-pub fresh_none : {A : Type 0} (l : Line) (xs : List A) → line_broken l (length xs) ≡ false → is_fresh l.stage ≡ true → xs ≡ []
-fresh_none l xs e f =
+new_none : {A : Type 0} (l : Line) (xs : List A) → line_broken l (length xs) ≡ false → is_fresh l.stage || not l.opening.touched ≡ true → xs ≡ []
+new_none l xs e f =
     let none = eqb (length xs) 0 in
     let idle = eqb l.present.count 0 in
     let back = is_return l.waiting in
     let nothing = none && idle && not back in
     let stray = back && not (terms_of l.opening.class).double in
-    let fresh = or_l (is_fresh l.stage && not nothing) stray (or_l (is_fresh l.stage && not nothing || stray) (is_closed l.stage && eqb (length xs) 0) (unbroken l (length xs) e).placed) in
+    let new = is_fresh l.stage || not l.opening.touched in
+    let fresh = or_l (new && not nothing) stray (or_l (new && not nothing || stray) (is_closed l.stage && eqb (length xs) 0) (unbroken l (length xs) e).placed) in
     let held = not-false nothing (ap (λ (t : Bool). t && not nothing) (sym f) ∙ fresh) in
     none_long xs (and_l none idle (and_l (none && idle) (not back) held))
+
+pub fresh_none : {A : Type 0} (l : Line) (xs : List A) → line_broken l (length xs) ≡ false → not (is_fresh l.stage) ≡ false → xs ≡ []
+fresh_none l xs e f = new_none l xs e (λ i. not-false (is_fresh l.stage) f i || not l.opening.touched)
+
+-- by the test 43
+pub untouched_none : {A : Type 0} (l : Line) (xs : List A) → line_broken l (length xs) ≡ false → not (is_open l.stage) || l.opening.touched ≡ false → xs ≡ []
+untouched_none l xs e f = new_none l xs e ((λ i. is_fresh l.stage || not (or_r (not (is_open l.stage)) l.opening.touched f i)) ∙ or_true (is_fresh l.stage))
+  where
+    or_true : (t : Bool) → t || true ≡ true
+    or_true true = refl
+    or_true false = refl
 
 -- a closed line has a section
 pub closed_some : {A : Type 0} (l : Line) (xs : List A) → misplaced l (length xs) ≡ false → is_closed l.stage ≡ true → is_empty xs ≡ false
 closed_some l xs e f =
     let nothing = eqb (length xs) 0 && eqb l.present.count 0 && not (is_return l.waiting) in
-    let none = or_r ((is_fresh l.stage && not nothing) || (is_return l.waiting && not (terms_of l.opening.class).double)) (is_closed l.stage && eqb (length xs) 0) e in
+    let none = or_r (((is_fresh l.stage || not l.opening.touched) && not nothing) || (is_return l.waiting && not (terms_of l.opening.class).double)) (is_closed l.stage && eqb (length xs) 0) e in
     some xs (ap (λ (t : Bool). t && eqb (length xs) 0) (sym f) ∙ none)
   where
     some : {A : Type 0} (ys : List A) → eqb (length ys) 0 ≡ false → is_empty ys ≡ false

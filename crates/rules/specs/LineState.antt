@@ -3,6 +3,8 @@ use Rattle.std.specs.declared.option.Option.{Option}
 use Rattle.std.specs.Prelude.{Bool, true, false, not, ◌&&◌, ◌||◌, List, [], ◌∷◌, map, ℕ, ◌+◌, leb, eqb, ℤ, pos, ◌+ℤ◌, ◌-ℤ◌, ◌*ℤ◌, Some, None}
 use Rattle.numbers.specs.Numbers.{within, between, eq_z, any_of, last_of}
 use Rattle.station.specs.declared.Figures.{Figures}
+use Rattle.station.specs.declared.Staffs.{Staffs}
+use Rattle.station.specs.declared.Staffs.TheVariants.{Nominal, Measured}
 use Rattle.adjust.specs.declared.Section.{Section}
 use Rattle.adjust.specs.Sections.{sections_of, holding, height_in_range}
 use Rattle.adjust.specs.Terms.{terms_of}
@@ -113,15 +115,23 @@ run_fits u = leb u.count 200 && within u.height most_g && between (pos u.count) 
 abbrev pub waiting_broken : Option Outward → ℕ → Bool
 waiting_broken w count = outward_or_return w false (λ number run. not (run_fits run) || leb 64 count)
 
--- a fresh book has nothing in any list, a run waits only where sections are levelled out and back, and a closed line has a section
+-- where no call was taken since the line was opened nothing is in any list, nor in a fresh book; a run waits only where sections are levelled out and back, and a closed line has a section
 abbrev pub misplaced : Line → ℕ → Bool
 misplaced l count =
-    (is_fresh l.stage && not (eqb count 0 && eqb l.present.count 0 && not (is_return l.waiting)))
+    ((is_fresh l.stage || not l.opening.touched) && not (eqb count 0 && eqb l.present.count 0 && not (is_return l.waiting)))
     || (is_return l.waiting && not (terms_of l.opening.class).double)
     || (is_closed l.stage && eqb count 0)
+
+-- the ranges of measured constants, of the staff 4,687 and of the staff 4,787, in tenths of a millimetre (document 02, W-203)
+abbrev pub constants_in_range : ℤ → ℤ → Bool
+constants_in_range first second = between (pos 46770) first (pos 46970) && between (pos 47770) second (pos 47970)
+
+abbrev pub staffs_fit : Staffs → Bool
+staffs_fit Nominal = true
+staffs_fit (Measured first second) = constants_in_range (pos first) (pos second)
 
 -- a line beside count sections; there is no place for more than 64
 unfoldable pub line_broken : Line → ℕ → Bool
 line_broken l count =
     not (leb count 64) || not (run_fits l.present) || waiting_broken l.waiting count || not (height_in_range l.opening.start.height) || not (height_in_range l.end)
-    || misplaced l count
+    || not (staffs_fit l.opening.staffs) || misplaced l count

@@ -1,6 +1,6 @@
 -- The rules: each call's tests, each beside its refusal number and in the order in which they are made, and what a call that is taken leaves
--- (document 01, 'Runs, sections and the standing list' and the two lists of refusals; document 02, W-201, W-202 and W-204).
-use Rattle.std.specs.Prelude.{Bool, true, false, not, cond, ◌&&◌, ◌||◌, List, [], ◌∷◌, ◌++◌, ℕ, ◌*◌, ◌%◌, length, leb, eqb, ℤ, pos, Some, None}
+-- (document 01, 'Runs, sections and the standing list' and the two lists of refusals; document 02, W-201 to W-204).
+use Rattle.std.specs.Prelude.{Bool, true, false, not, cond, ◌&&◌, ◌||◌, List, [], ◌∷◌, ◌++◌, ℕ, ◌*◌, ◌%◌, length, leb, eqb, ℤ, pos, nat_abs, Some, None}
 use Rattle.std.specs.declared.option.Option.{Option}
 use Rattle.std.specs.Int.Signed.{le_z, lt_z}
 use Rattle.numbers.specs.Numbers.{between, eq_z}
@@ -8,7 +8,7 @@ use Rattle.numbers.specs.Tables.{first_of}
 use Rattle.roots.specs.Limit.{is_within}
 use Rattle.station.specs.declared.Instrument.{Instrument}
 use Rattle.station.specs.declared.Instrument.TheVariants.{Ds3, Ds1}
-use Rattle.station.specs.declared.Staffs.TheVariants.{Nominal}
+use Rattle.station.specs.declared.Staffs.TheVariants.{Nominal, Measured}
 use Rattle.station.specs.declared.Figures.{Figures}
 use Rattle.station.specs.Station.{station_of, figures_of, limits_of, reading_tests, limit_tests}
 use Rattle.collimation.specs.Collimation.{collimation_of, within_angle, range_tests}
@@ -20,16 +20,16 @@ use Rattle.adjust.specs.declared.terms.Class.{Class}
 use Rattle.adjust.specs.declared.terms.Class.TheVariants.{Third, Fourth, Spur}
 use Rattle.adjust.specs.declared.terms.Root.{Root}
 use Rattle.adjust.specs.declared.terms.Terms.{Terms}
-use Rattle.adjust.specs.Terms.{order_of, terms_of}
-use Rattle.adjust.specs.Line.{quarters, totals}
+use Rattle.adjust.specs.Terms.{order_of, terms_of, terms_by}
+use Rattle.adjust.specs.Line.{units_of, totals}
 use Rattle.rules.specs.declared.Stage.TheVariants.{Open, Closed}
 use Rattle.rules.specs.declared.call.Call.{Call}
 -- the calls, under the names by which the rules speak of them
-use Rattle.rules.specs.declared.call.Call.TheVariants.{OpenLine as open_line, Station as station, EndRun as end_run, DropRun as drop_run, DropSection as drop_section, CloseLine as close_line, OpenSpur as open_spur, CloseSpur as close_spur, Collimation as collimation}
+use Rattle.rules.specs.declared.call.Call.TheVariants.{OpenLine as open_line, Station as station, EndRun as end_run, DropRun as drop_run, DropSection as drop_section, CloseLine as close_line, OpenSpur as open_spur, CloseSpur as close_spur, Collimation as collimation, Constants as constants}
 use Rattle.rules.specs.declared.Run.{Run}
 use Rattle.rules.specs.declared.Outward.{Outward}
 use Rattle.rules.specs.declared.Line.{Line}
-use Rattle.rules.specs.LineState.{LineState, is_fresh, is_open, is_closed, is_empty, on_line, is_shut, began, outward_or_return, is_return, no_run, with_station, one_way, both_ways, line_broken}
+use Rattle.rules.specs.LineState.{LineState, is_fresh, is_open, is_closed, is_empty, on_line, is_shut, began, outward_or_return, is_return, no_run, with_station, one_way, both_ways, constants_in_range, line_broken}
 
 -- ---- the parts of the rules
 
@@ -88,13 +88,16 @@ input_tests (close_line number end) = (4, not (number_in_range number)) ∷ (5, 
 input_tests (open_spur order instrument number height) = open_tests (eq_z order (pos 4)) instrument number height
 input_tests (close_spur number) = (4, not (number_in_range number)) ∷ []
 input_tests (collimation x) = range_tests (collimation_of x)
+input_tests (constants first second) = (42, not (constants_in_range first second)) ∷ []
 
 -- of a line between its start and the end height: its length and its closure
 abbrev pub total_tests : Terms → Bool → Totals → List (ℕ × Bool)
 total_tests terms loop t = (35, not (le_z t.distance (length_limit terms loop))) ∷ (36, not (closure_within terms t.closure t.distance)) ∷ []
 
 abbrev pub line_tests : LineState → ℤ → List (ℕ × Bool)
-line_tests v end = total_tests (terms_of v.line.opening.class) (is_shut v) (totals quarters v.line.opening.start.height end v.sections)
+line_tests v end =
+    let o : Opening = v.line.opening in
+    total_tests (terms_by o.staffs o.class) (is_shut v) (totals (units_of o.staffs) o.start.height end v.sections)
 
 -- of a station with the figures f, whose back staff has the constant kb
 abbrev pub station_tests : Line → Bool → ℤ → Figures → List (ℕ × Bool)
@@ -131,7 +134,7 @@ state_tests v (end_run number) =
     ∷ (29, eqb v.line.present.count 0 || eqb (v.line.present.count % 2) 1)
     ∷ (31, not (is_return v.line.waiting) && leb 64 (length v.sections))
     ∷ (30, not (number_allowed v number))
-    ∷ (32, outward_or_return v.line.waiting false (λ outward run. not (discrepancy_within (terms_of v.line.opening.class).apart (both_ways outward run v.line.present)))) ∷ []
+    ∷ (32, outward_or_return v.line.waiting false (λ outward run. not (discrepancy_within (terms_by v.line.opening.staffs v.line.opening.class).apart (both_ways outward run v.line.present)))) ∷ []
 state_tests v drop_run = (21, not (is_open v.line.stage)) ∷ []
 state_tests v drop_section = (21, not (is_open v.line.stage)) ∷ []
 state_tests v (close_line number end) =
@@ -140,6 +143,8 @@ state_tests v (open_spur order instrument number height) = open_state v
 state_tests v (close_spur number) = close_tests v (terms_of v.line.opening.class).tied number false
 -- a test is taken once, and within 20'' (document 02, W-204)
 state_tests v (collimation x) = (21, not (is_open v.line.stage)) ∷ (45, v.line.opening.collimated || not (within_angle (collimation_of x))) ∷ []
+-- directly after the line was opened, in the stead of 21 (document 02, W-203)
+state_tests v (constants first second) = (43, not (is_open v.line.stage) || v.line.opening.touched) ∷ []
 
 abbrev pub is_closing : Call → Bool
 is_closing (open_line order instrument number height) = false
@@ -151,6 +156,7 @@ is_closing (close_line number end) = true
 is_closing (open_spur order instrument number height) = false
 is_closing (close_spur number) = true
 is_closing (collimation x) = false
+is_closing (constants first second) = false
 
 -- refusal 20, by what is read: the line, or all sections too
 abbrev pub broken_in : Bool → LineState → Bool
@@ -175,15 +181,19 @@ book_tests v c = input_tests c ++ ((20, broken v c) ∷ state_tests v c)
 unfoldable pub book_refusal : LineState → Call → ℕ
 book_refusal v c = first_of (book_tests v c)
 
--- the order in which the numbers are tested: as they stand, but 31 before 30, 41, 45 and 46 directly after 21, and 44 with the input's numbers
+-- the order in which the numbers are tested: as they stand, but 31 before 30, 43 in the stead of 21, 41, 45 and 46 directly after it, and 42 and 44 with the input's numbers
 abbrev pub rank : ℕ → ℕ
-rank n = cond (eqb n 31) 299 (cond (eqb n 41 || eqb n 45 || eqb n 46) 211 (cond (eqb n 44) 56 (10 * n)))
+rank n = cond (eqb n 31) 299 (cond (eqb n 43) 210 (cond (eqb n 41 || eqb n 45 || eqb n 46) 211 (cond (eqb n 42 || eqb n 44) 56 (10 * n))))
 
 -- ---- what a call that is taken leaves
 
+-- what every call that is taken notes but an opening
+abbrev pub touched : Opening → Opening
+touched o = record o { touched = true }
+
 -- the line with other runs
 abbrev pub with_runs : Line → Option Outward → Run → Line
-with_runs l waiting present = record l { waiting = waiting; present = present }
+with_runs l waiting present = record l { opening = touched l.opening; waiting = waiting; present = present }
 
 abbrev pub with_section : LineState → Section → LineState
 with_section v x = record { line = with_runs v.line None no_run; sections = v.sections ++ (x ∷ []) }
@@ -204,7 +214,7 @@ begun o = record { stage = Open; opening = o; end = pos 0; waiting = None; prese
 -- what a line is opened with: the staffs have their nominal constants until others are given, and the level is not tested
 abbrev pub opening_with : Class → Instrument → ℤ → ℤ → Opening
 opening_with class instrument number height =
-    record { class = class; instrument = instrument; start = record { number = number; height = height }; staffs = Nominal; collimated = false }
+    record { class = class; instrument = instrument; start = record { number = number; height = height }; staffs = Nominal; collimated = false; touched = false }
 
 abbrev pub opening_of : Class → ℤ → ℤ → ℤ → Opening
 opening_of class instrument number height = opening_with class (instrument_of instrument) number height
@@ -214,13 +224,16 @@ abbrev pub unopened : Opening
 unopened = opening_with Fourth Ds3 (pos 0) (pos 0)
 
 abbrev pub collimated : Opening → Opening
-collimated o = record o { collimated = true }
+collimated o = record o { collimated = true; touched = true }
+
+abbrev pub measured : Opening → ℤ → ℤ → Opening
+measured o first second = record o { staffs = Measured (nat_abs first) (nat_abs second); touched = true }
 
 abbrev pub with_opening : Line → Opening → Line
 with_opening l o = record l { opening = o }
 
 abbrev pub closed_at : Line → ℤ → Line
-closed_at l end = record l { stage = Closed; end = end }
+closed_at l end = record l { stage = Closed; opening = touched l.opening; end = end }
 
 abbrev pub taken : LineState → Call → LineState
 taken v (open_line order instrument number height) = record { line = begun (opening_of (class_of order) instrument number height); sections = [] }
@@ -237,3 +250,5 @@ taken v (open_spur order instrument number height) = record { line = begun (open
 -- a spur has no end height: 0 stands for it
 taken v (close_spur number) = record { line = closed_at v.line (pos 0); sections = v.sections }
 taken v (collimation x) = record { line = with_opening v.line (collimated v.line.opening); sections = v.sections }
+-- nothing is in any list: no call was taken since the line was opened
+taken v (constants first second) = record { line = begun (measured v.line.opening first second); sections = [] }

@@ -1,8 +1,9 @@
 // The test of 20: whether a line's counts and sums can be, as all can that calls leave.
 ghost use Rattle.std.specs.Prelude.{◌≡◌};
-ghost use Rattle.rules.specs.LineState.{run_fits, waiting_broken, misplaced, line_broken};
+ghost use Rattle.rules.specs.LineState.{run_fits, waiting_broken, misplaced, constants_in_range, staffs_fit, line_broken};
 
 use super::{Book, Line, Outward, Run, Stage};
+use station::Staffs;
 
 fn run_fits(run: &Run) -> bool
     ensures { result ≡ run_fits run.now }
@@ -20,15 +21,33 @@ fn waiting_broken(waiting: &Option<Outward>, count: usize) -> bool
     waiting.is_some_and(|outward| !run_fits(&outward.run) || 64 <= count)
 }
 
+// Whether measured constants are in their ranges.
+pub(crate) fn constants_in_range(first: i64, second: i64) -> bool
+    ensures { result ≡ constants_in_range first second }
+{
+    (46770..=46970).contains(&first) && (47770..=47970).contains(&second)
+}
+
+fn staffs_fit(staffs: Staffs) -> bool
+    ensures { result ≡ staffs_fit staffs }
+{
+    match staffs {
+        Staffs::Nominal => true,
+        Staffs::Measured(first, second) => {
+            constants_in_range(i64::from(first), i64::from(second))
+        }
+    }
+}
+
 fn is_misplaced(line: &Line, count: usize) -> bool
     ensures { result ≡ misplaced line.now count }
 {
     let waits = line.waiting.is_some();
-    match line.stage {
-        Stage::Fresh if count != 0 || line.present.count != 0 || waits => true,
-        Stage::Closed if count == 0 => true,
-        _ => waits && !line.opening.class.terms().double,
-    }
+    let nothing = count == 0 && line.present.count == 0 && !waits;
+    let new = line.stage == Stage::Fresh || !line.opening.touched;
+    (new && !nothing)
+        || (waits && !line.opening.class.terms().double)
+        || (line.stage == Stage::Closed && count == 0)
 }
 
 // Refusal 20 of a book's line.
@@ -43,5 +62,6 @@ pub(crate) fn line_broken(b: &Book) -> bool
         || waiting_broken(&line.waiting, count)
         || !adjust::height_in_range(line.opening.start.height)
         || !adjust::height_in_range(line.end)
+        || !staffs_fit(line.opening.staffs)
         || is_misplaced(line, count)
 }

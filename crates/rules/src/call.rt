@@ -48,6 +48,11 @@ pub enum Call {
     Collimation {
         values: [i64; 6],
     },
+    // The staffs' measured constants, in tenths of a millimetre, of the staff 4,687 first.
+    Constants {
+        first: i64,
+        second: i64,
+    },
 }
 
 impl From<Record> for Call {
@@ -80,6 +85,10 @@ impl From<Record> for Call {
             Tag::Fin => Call::CloseSpur { number: a },
             Tag::Ang => Call::Collimation {
                 values: [a, b, c, d, e, f],
+            },
+            Tag::Kon => Call::Constants {
+                first: a,
+                second: b,
             },
         }
     }

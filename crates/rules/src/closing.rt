@@ -58,8 +58,8 @@ fn check_line(standing: &Standing, end: i64, shut: bool) -> Result<(), Refusal>
     ensures { number_of result ≡ first_of (line_tests (standing_of standing.now) end) }
 {
     let opening = standing.line.opening;
-    match adjust::totals_of(opening.start.height, end, standing.sections) {
-        Some(t) => check_totals(&opening.class.terms(), shut, &t),
+    match adjust::totals_of(opening.staffs, opening.start.height, end, standing.sections) {
+        Some(t) => check_totals(&opening.terms(), shut, &t),
         None => Err(Refusal::Broken),
     }
 }

@@ -55,6 +55,7 @@ pub fn opening_with(class: Class, instrument: Instrument, number: i64, height: i
         start: Benchmark { number, height },
         staffs: Staffs::Nominal,
         collimated: false,
+        touched: false,
     }
 }
 

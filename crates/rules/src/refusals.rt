@@ -5,9 +5,10 @@ ghost use Rattle.records.specs.Refusals.{number_of};
 ghost use Rattle.rules.specs.LineState.{state_of, outward_or_return, both_ways};
 ghost use Rattle.rules.specs.code.Bounds.{SmallRuns};
 ghost use Rattle.rules.specs.code.Standing.{standing_of};
-ghost use Rattle.rules.specs.declared.call.Call.TheVariants.{EndRun as end_run, DropRun as drop_run, Collimation as collimation};
+ghost use Rattle.rules.specs.declared.call.Call.TheVariants.{EndRun as end_run, DropRun as drop_run, Collimation as collimation, Constants as constants};
 ghost use Rattle.rules.specs.Rules.{number_in_range, counted_length, discrepancy_within, out_of_turn, station_tests, book_station_tests, state_tests, input_tests, book_refusal};
 
+use super::broken::constants_in_range;
 use super::standing::Standing;
 use super::{Book, Line, Outward, Run, Stage};
 use adjust::terms::Root;
@@ -95,6 +96,22 @@ pub fn check_collimation(b: &Book, x: [i64; 6]) -> Result<(), Refusal>
     check_angle(x)
 }
 
+// ---- the staffs' constants
+
+#[tactic(auto, unfolding(crate::specs::Rules::book_refusal))]
+pub fn check_constants(b: &Book, first: i64, second: i64) -> Result<(), Refusal>
+    ensures { number_of result ≡ book_refusal (state_of b.now) (constants first second) }
+{
+    if !constants_in_range(first, second) {
+        return Err(Refusal::ConstantsRange);
+    }
+    let line = Standing::of(b)?.line;
+    if line.stage != Stage::Open || line.opening.touched {
+        return Err(Refusal::ConstantsPlace);
+    }
+    Ok(())
+}
+
 // ---- drop run, and drop section, whose tests are the same
 
 #[tactic(auto, unfolding(crate::specs::Rules::book_refusal))]
@@ -148,7 +165,7 @@ fn check_run_end_on(standing: &Standing, number: i64) -> Result<(), Refusal>
     if !standing.number_allowed(number) {
         return Err(Refusal::BenchmarkPlace);
     }
-    let apart = line.opening.class.terms().apart;
+    let apart = line.opening.terms().apart;
     if too_far(apart, &line.waiting, &line.present) {
         return Err(Refusal::Discrepancy);
     }

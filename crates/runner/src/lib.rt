@@ -31,6 +31,7 @@ fn tag_of(number: i64) -> Option<Tag>
         7 => Some(Tag::Spr),
         8 => Some(Tag::Fin),
         9 => Some(Tag::Ang),
+        10 => Some(Tag::Kon),
         _ => None,
     }
 }

@@ -1,21 +1,20 @@
 -- `closing_of`: the frame is the line's, and what is answered follows from the sums, T, the verdict and the points.
 use Rattle.std.proofs.Common.{◌≡◌, List, length, sym, ap, ◌∙◌, ◌*◌, rules}
 use mathlib.Core.Path.{subst}
-use lib.IntN.{◌*ℤ◌}
+use lib.IntN.{◌*ℤ◌, nat_abs}
 use mir.Syntax.{w64}
 use mir.Val.{SFits}
 use Rattle.numbers.specs.Numbers.{filled}
-use Rattle.numbers.proofs.Machine.{stored, stored_id, stored_both}
+use Rattle.numbers.proofs.Machine.{stored, stored_id}
 use Rattle.numbers.proofs.Chain.{Value, known, mul, kept}
 use Rattle.adjust.specs.declared.Section.{Section}
 use Rattle.adjust.specs.declared.Frame.{Frame}
-use Rattle.adjust.specs.declared.terms.Terms.{Terms}
 use Rattle.adjust.specs.Sizes.{most_prints, most_w}
 use Rattle.adjust.specs.Terms.{terms_of}
-use Rattle.adjust.specs.Line.{quarters, wholes, totals, totals_by, frame, line_frame, points, accidental_sum, verdict}
+use Rattle.adjust.specs.Line.{wholes, totals, totals_by, frame, line_frame, points, accidental_sum, verdict}
 use Rattle.adjust.specs.Frames.{no_point}
 use Rattle.adjust.specs.code.Bounds.{Framed}
-use Rattle.adjust.proofs.Sized.{quarters_in, wholes_in, framed, framed_by}
+use Rattle.adjust.proofs.Sized.{units_in, wholes_in, framed, framed_by}
 use Rattle.adjust.proofs.closing_of.Goals as goal
 use Rattle.adjust.proofs.closing_of.Goals.{After-new-f}
 
@@ -27,14 +26,16 @@ module _ (c : After-new-f) where
   line = line_frame c.args.opening.now c.args.end ss
 
   framed_line : Framed line
-  framed_line = framed_by (terms_of c.args.opening.now.class) (framed quarters_in wholes_in c.requires.0)
+  framed_line = framed_by (terms_of c.args.opening.now.class) (framed (units_in c.args.opening.now.staffs) wholes_in c.requires.0)
 
   frame_is : c.new-f.result ≡ line
   frame_is =
       let start : SFits w64 c.args.opening.now.start.height = search rules in
+      let u : SFits w64 c.units_of-units.result = search rules in
       let h = stored_id start in
-      let ends = c.totals_between.ensures ∙ stored_both (λ x y. totals quarters x y ss) start c.ranges.end in
-      c.new-f.ensures ∙ (λ i. frame quarters wholes (h i) ((c.totals_by-t.ensures ∙ (λ j. totals_by (c.terms-terms.ensures j) (ends j))) i))
+      let units = stored_id u ∙ c.units_of-units.ensures in
+      let ends = c.totals_between.ensures ∙ (λ i. totals (units i) (h i) (stored_id c.ranges.end i) ss) in
+      c.new-f.ensures ∙ (λ i. frame (units i) wholes (h i) ((c.totals_by-t.ensures ∙ (λ j. totals_by (c.terms-terms.ensures j) (ends j))) i))
 
 pub points-requires : goal.points-requires
 points-requires c =
@@ -54,7 +55,9 @@ returns c =
     let tf : SFits w64 c.accidental_sum-accidental.result = search rules in
     let w = (kept (printed c.new-f.result (subst Framed (sym e) (framed_line f))) tt).is ∙ (λ i. (e i).prints *ℤ (e i).closure) in
     let l = ap (λ (x : Frame). stored x.total) e ∙ (known (line f).total (framed_line f).total.most tt).is in
-    let t = stored_id tf ∙ c.accidental_sum-accidental.ensures ∙ ap (λ (x : Terms). accidental_sum x 1 (ss f)) m in
+    let qf : SFits w64 c.squared_of-squared.result = search rules in
+    let q = stored_id qf ∙ c.squared_of-squared.ensures in
+    let t = stored_id tf ∙ c.accidental_sum-accidental.ensures ∙ (λ i. accidental_sum (m i) (nat_abs (q i)) (ss f)) in
     let judged = c.verdict_of.ensures ∙ (λ i. verdict (m i) (length (ss f)) (t i)) in
     let shown = c.points.ensures ∙ (λ i. filled no_point 65 (points (e i) (stored_id number i) (ss f))) in
     λ i. record { summary = record { closure = w i; distance = l i; count = length (ss f); accidental = t i; verdict = judged i }; points = shown i }
