@@ -1,10 +1,15 @@
 //! The adjustment (document 01, "Closure, corrections, heights"): standing alone
 //! as a call, as part of a closing, and the check of its promises in exact
-//! fractions. A section is the pair of its Q (quarter mm) and R (half dm).
+//! fractions. A section is the pair of its Q and R (half dm). Q, W and corrections
+//! are in `units` to the mm: quarter mm, or with measured constants a tenth of that
+//! (document 02, W-203), which the call standing alone does not have.
 
 use crate::fraction::{narrow, round_even};
 use crate::closing::Closing;
 use crate::rules;
+
+/// Quarter mm.
+pub const QUARTERS: i128 = 4;
 
 fn sum_of_q(sections: &[(i64, i64)]) -> i128 {
     sections.iter().map(|&(q, _)| i128::from(q)).sum()
@@ -14,45 +19,51 @@ fn sum_of_r(sections: &[(i64, i64)]) -> i128 {
     sections.iter().map(|&(_, r)| i128::from(r)).sum()
 }
 
-/// W = 4 start + sum of Q - 4 end, in quarter mm; 0 on a spur, which has no known end
+/// W = 4 start + sum of Q - 4 end for quarter mm; 0 on a spur, which has no known end
 /// (document 02, W-202).
-pub fn closure(start: i64, end: Option<i64>, sections: &[(i64, i64)]) -> i128 {
+pub fn closure(units: i128, start: i64, end: Option<i64>, sections: &[(i64, i64)]) -> i128 {
     match end {
-        Some(end) => 4 * i128::from(start) + sum_of_q(sections) - 4 * i128::from(end),
+        Some(end) => units * i128::from(start) + sum_of_q(sections) - units * i128::from(end),
         None => 0,
     }
 }
 
 /// The exact height after k sections as a fraction; on a spur start plus running Q.
-pub fn exact_height(start: i64, end: Option<i64>, sections: &[(i64, i64)], k: usize) -> (i128, i128) {
+pub fn exact_height(
+    units: i128,
+    start: i64,
+    end: Option<i64>,
+    sections: &[(i64, i64)],
+    k: usize,
+) -> (i128, i128) {
     let q_k = sum_of_q(&sections[..k]);
     if end.is_none() {
-        return (4 * i128::from(start) + q_k, 4);
+        return (units * i128::from(start) + q_k, units);
     }
-    let w = closure(start, end, sections);
+    let w = closure(units, start, end, sections);
     let l = sum_of_r(sections);
     let s_k = sum_of_r(&sections[..k]);
-    (4 * i128::from(start) * l + q_k * l - w * s_k, 4 * l)
+    (units * i128::from(start) * l + q_k * l - w * s_k, units * l)
 }
 
 /// The printed height of each section's end, in mm.
-pub fn heights(start: i64, end: Option<i64>, sections: &[(i64, i64)]) -> Vec<i64> {
+pub fn heights(units: i128, start: i64, end: Option<i64>, sections: &[(i64, i64)]) -> Vec<i64> {
     (1..=sections.len())
         .map(|k| {
-            let (n, d) = exact_height(start, end, sections, k);
+            let (n, d) = exact_height(units, start, end, sections, k);
             narrow(round_even(n, d))
         })
         .collect()
 }
 
-/// The correction of each section in quarter mm:
+/// The correction of each section, for quarter mm
 /// 4 (printed height k - printed height k-1) - its Q.
-pub fn corrections(start: i64, sections: &[(i64, i64)], heights: &[i64]) -> Vec<i64> {
+pub fn corrections(units: i128, start: i64, sections: &[(i64, i64)], heights: &[i64]) -> Vec<i64> {
     let mut before = i128::from(start);
     let mut corrections = Vec::new();
     for (k, &(q, _)) in sections.iter().enumerate() {
         let height = i128::from(heights[k]);
-        corrections.push(narrow(4 * (height - before) - i128::from(q)));
+        corrections.push(narrow(units * (height - before) - i128::from(q)));
         before = height;
     }
     corrections
@@ -73,7 +84,7 @@ pub fn adjust(start: i64, end: i64, sections: &[(i64, i64)], list: &mut [i64]) -
     if !rules::height_allowed(start) || !rules::height_allowed(end) {
         return Err(5);
     }
-    list[..sections.len()].copy_from_slice(&heights(start, Some(end), sections));
+    list[..sections.len()].copy_from_slice(&heights(QUARTERS, start, Some(end), sections));
     Ok(())
 }
 
@@ -86,9 +97,10 @@ fn section_allowed(section: &(i64, i64)) -> bool {
 
 /// Checks the promises of an adjustment: the corrections sum to -W, the last
 /// height is the end's, each height lies within half a mm of the exact one, each
-/// correction within 4 quarter mm of its exact share -W R / L. On a spur the first
+/// correction within one mm of its exact share -W R / L. On a spur the first
 /// two are not promised, and the share is 0.
 pub fn keeps_promises(
+    units: i128,
     start: i64,
     end: Option<i64>,
     sections: &[(i64, i64)],
@@ -98,7 +110,7 @@ pub fn keeps_promises(
     if heights.len() != sections.len() || corrections.len() != sections.len() {
         return Err(format!("{} heights for {} sections", heights.len(), sections.len()));
     }
-    let w = closure(start, end, sections);
+    let w = closure(units, start, end, sections);
     let l = sum_of_r(sections);
     let sum: i128 = corrections.iter().map(|&one| i128::from(one)).sum();
     if end.is_some() && sum != -w {
@@ -108,12 +120,12 @@ pub fn keeps_promises(
         return Err(format!("last height {:?}, end height {end:?}", heights.last()));
     }
     for (k, &(_, r)) in sections.iter().enumerate() {
-        let (n, d) = exact_height(start, end, sections, k + 1);
+        let (n, d) = exact_height(units, start, end, sections, k + 1);
         if 2 * (i128::from(heights[k]) * d - n).abs() > d {
             return Err(format!("height {} is not {n}/{d}", heights[k]));
         }
         let off = i128::from(corrections[k]) * l + w * i128::from(r);
-        if off.abs() > 4 * l {
+        if off.abs() > units * l {
             return Err(format!(
                 "correction {} is off its share {}/{l}",
                 corrections[k],
@@ -127,6 +139,7 @@ pub fn keeps_promises(
 /// The same of a closing, with the sums of its points: the first is the start
 /// with S and correction 0, each S the running sum of R, W and L as computed.
 pub fn closing_keeps_promises(
+    units: i128,
     start: i64,
     end: Option<i64>,
     sections: &[(i64, i64)],
@@ -139,7 +152,7 @@ pub fn closing_keeps_promises(
     if closing.points.len() != sections.len() + 1 {
         return Err(format!("{} points for {} sections", closing.points.len(), sections.len()));
     }
-    if i128::from(closing.w) != closure(start, end, sections) {
+    if i128::from(closing.w) != closure(units, start, end, sections) {
         return Err(format!("W is {}", closing.w));
     }
     if i128::from(closing.l) != sum_of_r(sections) || closing.n != sections.len() as i64 {
@@ -152,5 +165,5 @@ pub fn closing_keeps_promises(
     }
     let heights: Vec<i64> = closing.points[1..].iter().map(|one| one.height).collect();
     let corrections: Vec<i64> = closing.points[1..].iter().map(|one| one.correction).collect();
-    keeps_promises(start, end, sections, &heights, &corrections)
+    keeps_promises(units, start, end, sections, &heights, &corrections)
 }

@@ -15,8 +15,10 @@ fn largest(rule: impl Fn(i64) -> bool) -> i64 {
 }
 
 impl Caller<'_> {
+    /// Whether a D of so many half mm is within its limit.
     fn agrees(&self, d: i64, r: i64) -> bool {
-        rules::double_run_agrees(self.class(), d.into(), r.into())
+        let kept = self.parts() * d;
+        rules::double_run_agrees(self.class(), self.reading.staffs, kept.into(), r.into())
     }
 
     /// The sum of sights that a run of so many stations is to have.
@@ -96,7 +98,9 @@ impl Caller<'_> {
     fn wished_d(&mut self, r: i64) -> i64 {
         let Some(set) = self.class().terms().both_ways else { return 0 };
         let limit = largest(|d| self.agrees(d, r));
-        let mean = largest(|d| rules::square_per_km(d.into(), r.into()) <= set.accidental);
+        let (staffs, parts) = (self.reading.staffs, self.parts());
+        let t = |d: i64| rules::square_per_km(staffs, (parts * d).into(), r.into());
+        let mean = largest(|d| t(d) <= set.accidental);
         let d = match self.random.below(12) {
             0 if self.style.verdict => mean + 1,
             1 if self.style.verdict => (mean - 1).max(0),
@@ -128,7 +132,9 @@ impl Caller<'_> {
     pub fn wished_w(&mut self, l: i64) -> i64 {
         let class = self.class();
         assert!(class != Class::Spur, "a spur has no W");
-        let limit = largest(|w| rules::closure_allowed(class, w.into(), l.into()));
+        let (staffs, parts) = (self.reading.staffs, self.parts());
+        let allowed = |w: i64| rules::closure_allowed(class, staffs, (parts * w).into(), l.into());
+        let limit = largest(allowed);
         let w = match self.random.below(10) {
             0..=3 => limit,
             4 => limit + 1,

@@ -1,17 +1,19 @@
 //! A caller: it makes calls and keeps the plain reading of them, so
 //! that it can come to the limits.
 
+use crate::constants::NOMINAL;
 use crate::fraction::narrow;
 use crate::opening::usual;
 use crate::plain::{Answer, Call, Opened, Reading};
 use crate::random::Random;
 use crate::rules::{self, Class};
-use crate::wished::{faces, other_staff, station_of, Wish, CONSTANTS, STEEPEST};
+use crate::wished::{faces, largest_twice, other_staff, station_of, Wish, STEEPEST};
 use crate::station::{accumulated_d, sum_of_heights, sum_of_sights};
 
 /// How a line is levelled: class and instrument, usual sight (dm), usual height
 /// of a station (half mm), whether all sights are the same, whether D is set for
-/// a verdict at its limit, and one call in how many goes wrong (0: none).
+/// a verdict at its limit, whether the constants are measured, and one call in how many goes
+/// wrong (0: none).
 #[derive(Clone, Debug)]
 pub struct Style {
     pub class: Class,
@@ -20,6 +22,7 @@ pub struct Style {
     pub relief: i64,
     pub equal: bool,
     pub verdict: bool,
+    pub measured: bool,
     pub trouble: u64,
 }
 
@@ -91,30 +94,44 @@ impl<'r> Caller<'r> {
         narrow(accumulated_d(&self.reading.run))
     }
 
-    /// Sums of heights and of sights over the present run.
-    pub fn run_sums(&self) -> (i64, i64) {
-        (narrow(sum_of_heights(&self.reading.run)), narrow(sum_of_sights(&self.reading.run)))
+    /// The parts of a half or a quarter mm that heights are kept in.
+    pub fn parts(&self) -> i64 {
+        narrow(self.reading.staffs.parts())
     }
 
-    /// The same over the waiting outward run, 0 where none waits.
+    /// Of a figure that is kept in these parts the half or quarter mm, of which it has whole ones:
+    /// over an ended run the constants cancel, its staffs being in turn and its count even.
+    fn whole(&self, figure: i64) -> i64 {
+        assert_eq!(figure % self.parts(), 0, "a run that is not ended");
+        figure / self.parts()
+    }
+
+    /// Sums of heights, in the parts that they are kept in, and of sights over the present run.
+    pub fn run_sums(&self) -> (i64, i64) {
+        let heights = sum_of_heights(&self.reading.run, self.reading.staffs);
+        (narrow(heights), narrow(sum_of_sights(&self.reading.run)))
+    }
+
+    /// Sums of heights (half mm) and of sights over the waiting outward run, 0 where none waits.
     pub fn waiting_sums(&self) -> (i64, i64) {
         match &self.reading.waiting {
             None => (0, 0),
             Some(waiting) => {
-                (narrow(sum_of_heights(&waiting.outward)), narrow(sum_of_sights(&waiting.outward)))
+                let heights = sum_of_heights(&waiting.outward, self.reading.staffs);
+                (self.whole(narrow(heights)), narrow(sum_of_sights(&waiting.outward)))
             }
         }
     }
 
-    /// Sums of Q and of R over the finished sections.
+    /// Sums of Q (quarter mm) and of R over the finished sections.
     pub fn line_sums(&self) -> (i64, i64) {
         let sums = self.reading.sums_of_sections();
-        (sums.iter().map(|one| one.0).sum(), sums.iter().map(|one| one.1).sum())
+        (self.whole(sums.iter().map(|one| one.0).sum()), sums.iter().map(|one| one.1).sum())
     }
 
     /// The constant of a back staff that is in turn.
     pub fn next_staff(&mut self) -> i64 {
-        let constant = *self.random.pick(&CONSTANTS);
+        let constant = *self.random.pick(&NOMINAL);
         if self.reading.in_turn(constant) {
             constant
         } else {
@@ -129,13 +146,18 @@ impl<'r> Caller<'r> {
         let most = 2 * self.table().sight;
         let noise = if self.style.equal { 0 } else { self.style.sight / 4 };
         let sum = self.share(goal.sum - sights, left, (4, most), noise);
-        let relief = self.style.relief;
-        let twice = self.share(goal.twice - heights, left, (-STEEPEST, STEEPEST), relief);
+        let (staffs, parts) = (self.reading.staffs, self.parts());
+        let steepest = parts * STEEPEST;
+        let rest = parts * goal.twice - heights;
+        let twice = self.share(rest, left, (-steepest, steepest), parts * self.style.relief);
         let table = self.table();
+        let back_k = self.next_staff();
+        let twice = largest_twice(staffs, back_k, twice);
         Wish {
-            back_k: self.next_staff(),
+            staffs,
+            back_k,
             sights: self.sights_of_sum(sum),
-            faces: faces(self.random, table.e, table.faces, twice),
+            faces: faces(self.random, (staffs, back_k), table.e, table.faces, twice),
             twice,
         }
     }

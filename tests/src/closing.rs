@@ -6,7 +6,8 @@ use crate::fraction::narrow;
 use crate::plain::{refuse_if, Opened, Outcome, Reading, Stage};
 use crate::rules::{self, Class};
 
-/// What closing gives, and the points that the report prints, start first.
+/// What closing gives, and the points that the report prints, start first. W is in the unit
+/// of the corrections.
 #[derive(Clone, Debug, PartialEq, Eq)]
 pub struct Closing {
     pub w: i64,
@@ -18,7 +19,7 @@ pub struct Closing {
 }
 
 /// A benchmark of the closed line: distance S in half dm from the start,
-/// correction in quarter mm, height in mm.
+/// correction in quarter mm or, with measured constants, a tenth of that, height in mm.
 #[derive(Clone, Debug, PartialEq, Eq)]
 pub struct Point {
     pub number: i64,
@@ -39,7 +40,7 @@ impl Reading {
         let closing = self.closing(class, opened, Some(height));
         let (w, l) = (i128::from(closing.w), i128::from(closing.l));
         refuse_if(rules::longest_line(class, is_loop).is_some_and(|longest| l > longest), 35)?;
-        refuse_if(!rules::closure_allowed(class, w, l), 36)?;
+        refuse_if(!rules::closure_allowed(class, self.staffs, w, l), 36)?;
         self.stage = Stage::Closed;
         self.end_height = Some(height);
         Ok(closing)
@@ -68,7 +69,7 @@ impl Reading {
         let n = self.sections.len() as i128;
         let t = self.sum_of_squares();
         Closing {
-            w: narrow(adjust::closure(opened.height, end, &sums)),
+            w: narrow(adjust::closure(self.staffs.units(), opened.height, end, &sums)),
             l: narrow(l),
             n: narrow(n),
             t: narrow(t),
@@ -79,8 +80,9 @@ impl Reading {
 
     /// The start with S and correction 0, then one point for each section.
     fn points(&self, opened: Opened, end: Option<i64>, sums: &[(i64, i64)]) -> Vec<Point> {
-        let heights = adjust::heights(opened.height, end, sums);
-        let corrections = adjust::corrections(opened.height, sums, &heights);
+        let units = self.staffs.units();
+        let heights = adjust::heights(units, opened.height, end, sums);
+        let corrections = adjust::corrections(units, opened.height, sums, &heights);
         let start =
             Point { number: opened.start, distance: 0, correction: 0, height: opened.height };
         let mut distance = 0;

@@ -37,10 +37,10 @@ const FIELDS: [&[u8; FIELD]; 24] = [
 const BYTES: [u8; 14] = *b" \n\r\t-+0159AZ\0\xff";
 
 /// Lines to be put in between.
-const WORDS: [&str; 9] = ["", "LEVEL BOOK", "PNT", "LIN", "SPR", "FIN", "ANG", "DRR", "DRS"];
+const WORDS: [&str; 11] = ["", "LEVEL BOOK", "PNT", "LIN", "SPR", "FIN", "ANG", "KON", "KON   46870   47870", "DRR", "DRS"];
 
 /// Tags to be written over others.
-const TAGS: [&[u8; TAG]; 9] = [b"LIN", b"STA", b"RUN", b"DRR", b"DRS", b"END", b"SPR", b"FIN", b"ANG"];
+const TAGS: [&[u8; TAG]; 10] = [b"LIN", b"STA", b"RUN", b"DRR", b"DRS", b"END", b"SPR", b"FIN", b"ANG", b"KON"];
 
 /// A text book with a random list of calls, one in two damaged.
 pub fn text_book(random: &mut Random) -> Vec<u8> {
@@ -72,7 +72,7 @@ pub fn damage(random: &mut Random, text: &mut Vec<u8>) {
         0 | 1 => set(text, line + random.below(LINE as u64) as usize, *random.pick(&BYTES)),
         2..=5 => set_field(random, text, line),
         6 => set(text, line + COLUMNS, *random.pick(&BYTES)),
-        7 => set(text, line + random.below(TAG as u64) as usize, *random.pick(b"SlLTEeR NPFIAG")),
+        7 => set(text, line + random.below(TAG as u64) as usize, *random.pick(b"SlLTEeR NPFIAGKO")),
         8 => set(text, line + random.between(70, 82) as usize, *random.pick(&BYTES)),
         9 => {
             let words: &str = random.pick::<&str>(&WORDS);

@@ -34,7 +34,7 @@ pub fn figures_of(reading: &Reading, closed: &Option<Closing>) -> Vec<i64> {
         }
     }
     figures[5] = reading.run.len() as i64;
-    figures[6] = narrow(sum_of_heights(&reading.run));
+    figures[6] = narrow(sum_of_heights(&reading.run, reading.staffs));
     figures[7] = narrow(sum_of_sights(&reading.run));
     figures[8] = narrow(accumulated_d(&reading.run));
     figures[9] = reading.sections.len() as i64;

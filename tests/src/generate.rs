@@ -1,5 +1,5 @@
 //! Lists of calls that are worth comparing: lines of both orders and spurs, with both
-//! instruments, that reach the limits of documents 01 and 02, and changed lists.
+//! instruments, one in three with measured constants, that reach the limits of documents 01 and 02, and changed lists.
 
 use crate::mutate::mutate;
 use crate::caller::{Caller, Style};
@@ -109,6 +109,7 @@ fn style(random: &mut Random, kind: Kind) -> Style {
         relief: *random.pick(&[0, 10, 100, 400, 1_500]),
         equal: kind != Kind::Verdict && (sight == SHORTEST_SIGHT || random.chance(1, 4)),
         verdict: kind == Kind::Verdict,
+        measured: random.chance(1, 3),
         trouble,
     }
 }

@@ -1,8 +1,8 @@
 //! Another implementation of the levelling book, written from documents 01 and 02 alone; the tests compare the proved one with it.
 //!
-//! The other implementation: `fraction`, `station`, `collimation`, `rules`, `plain`, `standing`, `closing`, `adjust`, `figures`, and for texts `text`,
+//! The other implementation: `fraction`, `constants`, `station`, `collimation`, `rules`, `plain`, `standing`, `closing`, `adjust`, `figures`, and for texts `text`,
 //! `write`, `report`.
-//! Inputs for comparisons: `random`, `lent`, `examples`, `opening`, `fixed`, for lists of calls `wished`, `angles`, `caller`, `at_limits`, `mistakes`, `work`,
+//! Inputs for comparisons: `random`, `lent`, `examples`, `opening`, `fixed`, for lists of calls `wished`, `angles`, `measured`, `caller`, `at_limits`, `mistakes`, `work`,
 //! `generate`, `mutate`, and for texts `damage`, `largest`. Both implementations on one of them: `both`.
 
 pub mod adjust;
@@ -11,6 +11,7 @@ pub mod at_limits;
 pub mod both;
 pub mod closing;
 pub mod collimation;
+pub mod constants;
 pub mod damage;
 pub mod examples;
 pub mod figures;
@@ -19,6 +20,7 @@ pub mod fraction;
 pub mod generate;
 pub mod largest;
 pub mod lent;
+pub mod measured;
 pub mod mutate;
 pub mod opening;
 pub mod caller;

@@ -6,7 +6,7 @@ use crate::opening::{opening_call, usual};
 use crate::caller::{Goal, Caller};
 use crate::plain::{Call, Opened};
 use crate::rules::Class;
-use crate::wished::{other_staff, station_of, Wish};
+use crate::wished::{in_parts, largest_e, least_e, other_staff, station_of, Wish};
 use crate::station::{BLACK, LOWER, RED, UPPER};
 
 impl Caller<'_> {
@@ -25,7 +25,8 @@ impl Caller<'_> {
             7..=9 => self.doubtful_closing(),
             10..=11 => any_call(self.random),
             12 => self.doubtful_collimation(),
-            13..=29 => self.station_at_a_limit(goal),
+            13 => self.doubtful_constants(),
+            14..=29 => self.station_at_a_limit(goal),
             _ => self.spoilt_station(goal),
         };
         self.put(call);
@@ -141,20 +142,34 @@ impl Caller<'_> {
                 let d = (wanted - self.accumulated()).clamp(-table.d, table.d);
                 self.set_d(wish, d);
             }
-            3 => {
-                let turn = self.random.sign(1);
-                wish.faces[side] = turn * (table.e + beyond);
-                wish.faces[1 - side] = turn * self.random.between(0, table.e);
-            }
-            _ => {
-                let apart = table.faces + beyond;
-                let back = self.random.between(apart - table.e, table.e);
-                wish.faces = [back, back - apart];
-                if side == 1 {
-                    wish.faces.reverse();
-                }
-            }
+            3 => self.press_e(wish, side, beyond),
+            _ => self.press_faces(wish, side, beyond),
         }
+    }
+
+    /// The staff's e nearest to its limit, within or the next one beyond; the other staff's has the same sign.
+    fn press_e(&mut self, wish: &mut Wish, side: usize, beyond: i64) {
+        let most = self.table().e;
+        let parts = self.parts();
+        let names = [wish.back_k, other_staff(wish.back_k)];
+        let turn = self.random.sign(1);
+        let near = if turn > 0 { largest_e } else { least_e };
+        wish.faces[side] = near(wish.staffs, names[side], turn * parts * most) + turn * parts * beyond;
+        let other = self.random.between(0, most);
+        wish.faces[1 - side] = near(wish.staffs, names[1 - side], turn * parts * other);
+    }
+
+    /// The faces' difference nearest to its limit, within or the next one beyond; this side has the larger e.
+    fn press_faces(&mut self, wish: &mut Wish, side: usize, beyond: i64) {
+        let table = self.table();
+        let names = [wish.back_k, other_staff(wish.back_k)];
+        let (parts, here) = in_parts(wish.staffs, names[side]);
+        let (_, there) = in_parts(wish.staffs, names[1 - side]);
+        let most = parts * table.faces;
+        let apart = most - (most - (here - there)).rem_euclid(parts) + parts * beyond;
+        let e = self.random.between(table.faces + beyond - table.e, table.e);
+        wish.faces[side] = largest_e(wish.staffs, names[side], parts * e);
+        wish.faces[1 - side] = wish.faces[side] - apart;
     }
 
     /// Sights with this d, within the sight limit.

@@ -1,13 +1,13 @@
 //! Random changes of a list of calls: arguments at range limits, extreme values,
 //! calls lost, doubled or out of place, a line's calls for a spur's.
 
-use crate::opening::{usual, TABLE_B7};
+use crate::constants::NOMINAL;
+use crate::opening::{usual, MEASURED, TABLE_B7};
 use crate::plain::{Call, Opened};
 use crate::random::Random;
-use crate::wished::CONSTANTS;
 
 /// Values around the limits that documents 01 and 02 name, and extreme ones.
-const ODD_VALUES: [i64; 46] = [
+const ODD_VALUES: [i64; 54] = [
     0,
     1,
     2,
@@ -42,6 +42,14 @@ const ODD_VALUES: [i64; 46] = [
     40_000,
     50_000,
     50_001,
+    46_769,
+    46_770,
+    46_970,
+    46_971,
+    47_769,
+    47_770,
+    47_970,
+    47_971,
     99_999_999,
     -9_999_999,
     i64::MAX,
@@ -72,6 +80,7 @@ pub fn arguments(call: &mut Call) -> Vec<&mut i64> {
         Call::DropRun | Call::DropSection => vec![],
         Call::CloseLine { number, height } => vec![number, height],
         Call::Collimation(values) => values.iter_mut().collect(),
+        Call::Constants(values) => values.iter_mut().collect(),
     }
 }
 
@@ -86,14 +95,14 @@ fn odd_value(random: &mut Random, old: i64) -> i64 {
 
 /// A call whose arguments are anything.
 pub fn any_call(random: &mut Random) -> Call {
-    let k = *random.pick(&CONSTANTS);
+    let k = *random.pick(&NOMINAL);
     let m = random.between(1, 2_999);
     let staff = [m + 1, m - 1, m, m + k];
-    let mut call = match random.below(9) {
+    let mut call = match random.below(10) {
         0 => Call::Open(Opened { height: 0, ..usual(3) }),
         1 => Call::Station {
             back_k: k,
-            fore_k: CONSTANTS[0] + CONSTANTS[1] - k,
+            fore_k: NOMINAL[0] + NOMINAL[1] - k,
             readings: [staff; 2],
         },
         2 => Call::EndRun(1),
@@ -102,6 +111,7 @@ pub fn any_call(random: &mut Random) -> Call {
         5 => Call::OpenSpur(Opened { height: 0, ..usual(4) }),
         6 => Call::CloseSpur(1),
         7 => Call::Collimation(TABLE_B7),
+        8 => Call::Constants(MEASURED),
         _ => Call::CloseLine { number: 1, height: 0 },
     };
     for argument in arguments(&mut call) {

@@ -11,6 +11,9 @@ pub fn usual(order: i64) -> Opened {
 /// A1, B1, A2, B2, D1, D2 of source document 000, Table B7.
 pub const TABLE_B7: [i64; 6] = [5_937, 5_951, 6_043, 6_067, 6_800, 40_300];
 
+/// Constants in their ranges, of the staff 4,687 and of the staff 4,787, in tenths of a mm.
+pub const MEASURED: [i64; 2] = [46_873, 47_866];
+
 /// The call that opens; the order is the class's, whatever the values have.
 pub fn opening_call(class: Class, opened: Opened) -> Call {
     let opened = Opened { order: class.order(), ..opened };
@@ -27,6 +30,11 @@ pub fn opening_of(class: Class, opened: Opened) -> Vec<Call> {
 
 pub fn opening(class: Class) -> Vec<Call> {
     opening_of(class, usual(class.order()))
+}
+
+/// The same with measured constants.
+pub fn measured_opening(class: Class, constants: [i64; 2]) -> Vec<Call> {
+    vec![opening_call(class, usual(class.order())), Call::Constants(constants), Call::Collimation(TABLE_B7)]
 }
 
 /// The call that closes; a spur has no end height.

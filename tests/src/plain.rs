@@ -1,8 +1,10 @@
 //! The plain reading of a list of calls (document 01, "Runs, sections and the
 //! standing list"): lists of stations, and every rule read over these lists. The
-//! closing calls are in `closing`, the test of the level in `collimation`.
+//! closing calls are in `closing`, the test of the level in `collimation`, the measured
+//! constants in `constants`.
 
 use crate::closing::Closing;
+use crate::constants::Staffs;
 use crate::rules::{self, Class};
 use crate::station::{accumulated_d, sum_of_heights, sum_of_sights, Station, BACK, FORE};
 
@@ -20,6 +22,8 @@ pub enum Call {
     CloseSpur(i64),
     /// A1, B1, A2, B2, D1, D2.
     Collimation([i64; 6]),
+    /// The measured constant of the staff 4,687, then of the staff 4,787, in tenths of a mm.
+    Constants([i64; 2]),
 }
 
 #[derive(Clone, Debug, PartialEq, Eq)]
@@ -54,11 +58,12 @@ pub struct Section {
 }
 
 impl Section {
-    /// Q in quarter mm: 2 G, or G - G' with a return.
-    pub fn q(&self) -> i128 {
+    /// Q in quarter mm or a tenth of that: 2 G, or G - G' with a return.
+    pub fn q(&self, staffs: Staffs) -> i128 {
+        let out = sum_of_heights(&self.outward, staffs);
         match &self.homeward {
-            None => 2 * sum_of_heights(&self.outward),
-            Some(homeward) => sum_of_heights(&self.outward) - sum_of_heights(homeward),
+            None => 2 * out,
+            Some(homeward) => out - sum_of_heights(homeward, staffs),
         }
     }
 
@@ -70,10 +75,10 @@ impl Section {
         }
     }
 
-    /// D in half mm: G + G'; a section without return has none.
-    pub fn d(&self) -> Option<i128> {
+    /// D in half mm or a tenth of that: G + G'; a section without return has none.
+    pub fn d(&self, staffs: Staffs) -> Option<i128> {
         let homeward = self.homeward.as_ref()?;
-        Some(sum_of_heights(&self.outward) + sum_of_heights(homeward))
+        Some(sum_of_heights(&self.outward, staffs) + sum_of_heights(homeward, staffs))
     }
 }
 
@@ -84,14 +89,16 @@ pub struct Waiting {
     pub outward: Vec<Station>,
 }
 
-/// What the plain reading keeps; a spur is closed without an end height. `collimated` is whether
-/// a test of the level was taken.
+/// What the plain reading keeps; a spur is closed without an end height. `begun` is whether a call
+/// was taken since the line or spur was opened, `collimated` whether a test of the level was.
 #[derive(Clone, Debug, PartialEq, Eq)]
 pub struct Reading {
     pub stage: Stage,
     pub class: Option<Class>,
     pub opened: Option<Opened>,
     pub end_height: Option<i64>,
+    pub begun: bool,
+    pub staffs: Staffs,
     pub collimated: bool,
     pub sections: Vec<Section>,
     pub waiting: Option<Waiting>,
@@ -122,6 +129,8 @@ impl Reading {
             class: None,
             opened: None,
             end_height: None,
+            begun: false,
+            staffs: Staffs::Nominal,
             collimated: false,
             sections: Vec::new(),
             waiting: None,
@@ -131,7 +140,13 @@ impl Reading {
 
     /// Takes or refuses one call; a refused call changes nothing.
     pub fn apply(&mut self, call: &Call) -> Answer {
-        self.take(call).unwrap_or_else(Answer::Refused)
+        match self.take(call) {
+            Err(number) => Answer::Refused(number),
+            Ok(answer) => {
+                self.begun = !matches!(call, Call::Open(_) | Call::OpenSpur(_));
+                answer
+            }
+        }
     }
 
     fn take(&mut self, call: &Call) -> Result<Answer, u8> {
@@ -149,6 +164,7 @@ impl Reading {
             }
             Call::CloseSpur(number) => return self.close_spur(number).map(Answer::Closed),
             Call::Collimation(values) => self.collimation(&values)?,
+            Call::Constants(values) => self.measured(&values)?,
         }
         Ok(Answer::Taken)
     }
@@ -179,8 +195,10 @@ impl Reading {
         refuse_if(station.sight(BACK) > limits.sight || station.sight(FORE) > limits.sight, 24)?;
         refuse_if(station.d().abs() > limits.d, 25)?;
         refuse_if(accumulated.abs() > limits.accumulated, 26)?;
-        refuse_if(station.e(BACK).abs() > limits.e || station.e(FORE).abs() > limits.e, 27)?;
-        refuse_if(station.faces().abs() > limits.faces, 28)?;
+        let (staffs, parts) = (self.staffs, self.staffs.parts());
+        let within = |e: i128| e.abs() <= parts * limits.e;
+        refuse_if(!within(station.e(BACK, staffs)) || !within(station.e(FORE, staffs)), 27)?;
+        refuse_if(station.faces(staffs).abs() > parts * limits.faces, 28)?;
         self.run.push(station);
         Ok(())
     }
@@ -219,8 +237,8 @@ impl Reading {
             outward: waiting.outward.clone(),
             homeward: Some(self.run.clone()),
         };
-        let d = section.d().expect("a return");
-        refuse_if(!rules::double_run_agrees(class, d, section.r()), 32)?;
+        let d = section.d(self.staffs).expect("a return");
+        refuse_if(!rules::double_run_agrees(class, self.staffs, d, section.r()), 32)?;
         self.sections.push(section);
         self.waiting = None;
         self.run.clear();

@@ -1,5 +1,6 @@
 //! The limits of documents 01 and 02, and what is computed for a line from its sums.
 
+use crate::constants::Staffs;
 use crate::fraction::{round_even, within};
 
 /// A run holds at most this many stations (document 01, refusal 22).
@@ -11,8 +12,8 @@ pub const SECTIONS_OF_A_LINE: usize = 64;
 /// For D a shorter R, in half dm, counts as this one (document 02, W-201).
 pub const SHORTEST_FOR_D: i128 = 2_000;
 
-/// Limits on a station, all inclusive, on absolute values
-/// (document 01, "The station").
+/// Limits on a station, all inclusive, on absolute values, sights and d in dm, the others
+/// in mm (document 01, "The station").
 #[derive(Clone, Debug, PartialEq, Eq)]
 pub struct Limits {
     pub sight: i128,
@@ -134,15 +135,23 @@ pub fn height_allowed(height: i64) -> bool {
     (-999_999..=8_999_999).contains(&height)
 }
 
+/// A square of D or W is so many times as large as in the units that the limits are for:
+/// 100 times with measured constants (document 02, W-203).
+fn square_of_parts(staffs: Staffs) -> i128 {
+    staffs.parts() * staffs.parts()
+}
+
 /// Whether out and back agree; without a return nothing can disagree.
-pub fn double_run_agrees(class: Class, d: i128, r: i128) -> bool {
+pub fn double_run_agrees(class: Class, staffs: Staffs, d: i128, r: i128) -> bool {
     let counted = r.max(SHORTEST_FOR_D);
-    class.terms().both_ways.is_none_or(|set| within(set.agree.0, d, set.agree.1, counted))
+    let square = square_of_parts(staffs);
+    class.terms().both_ways.is_none_or(|set| within(set.agree.0, d, square * set.agree.1, counted))
 }
 
 /// Whether W is within its limit; a spur has none.
-pub fn closure_allowed(class: Class, w: i128, l: i128) -> bool {
-    class.terms().known_end.is_none_or(|set| within(set.closure.0, w, set.closure.1, l))
+pub fn closure_allowed(class: Class, staffs: Staffs, w: i128, l: i128) -> bool {
+    let square = square_of_parts(staffs);
+    class.terms().known_end.is_none_or(|set| within(set.closure.0, w, square * set.closure.1, l))
 }
 
 /// The longest line in half dm, 20,000 of them to the km; a spur has no longest.
@@ -152,9 +161,9 @@ pub fn longest_line(class: Class, is_loop: bool) -> Option<i128> {
 }
 
 /// t of a section out and back: 500,000 D^2 / R, rounded, in hundredths of mm^2
-/// per km.
-pub fn square_per_km(d: i128, r: i128) -> i128 {
-    round_even(500_000 * d * d, r)
+/// per km, which it keeps with measured constants: there the divisor is 100 R.
+pub fn square_per_km(staffs: Staffs, d: i128, r: i128) -> i128 {
+    round_even(500_000 * d * d, square_of_parts(staffs) * r)
 }
 
 /// 0 for n < 20, 1 for a T within its limit for n sections, 2 above; sections of one run

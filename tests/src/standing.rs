@@ -58,14 +58,14 @@ impl Reading {
 
     /// Q and R of the finished sections.
     pub fn sums_of_sections(&self) -> Vec<(i64, i64)> {
-        self.sections.iter().map(|one| (narrow(one.q()), narrow(one.r()))).collect()
+        self.sections.iter().map(|one| (narrow(one.q(self.staffs)), narrow(one.r()))).collect()
     }
 
     /// T, the sum of t over the sections that have a return.
     pub fn sum_of_squares(&self) -> i128 {
         self.sections
             .iter()
-            .filter_map(|one| one.d().map(|d| rules::square_per_km(d, one.r())))
+            .filter_map(|one| Some(rules::square_per_km(self.staffs, one.d(self.staffs)?, one.r())))
             .sum()
     }
 }

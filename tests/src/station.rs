@@ -1,5 +1,8 @@
 //! The figures of one station (document 01, "The station"), and their sums over
-//! a list of stations.
+//! a list of stations. Where the constants are measured ones, in tenths of a mm, the
+//! figures that they enter into are in units one tenth as large (document 02, W-203).
+
+use crate::constants::Staffs;
 
 pub const BACK: usize = 0;
 pub const FORE: usize = 1;
@@ -10,7 +13,7 @@ pub const LOWER: usize = 1;
 pub const BLACK: usize = 2;
 pub const RED: usize = 3;
 
-/// Two staffs of four readings, back first, and the constants of the staffs.
+/// Two staffs of four readings, back first, and the nominal constants that name the staffs.
 #[derive(Clone, Debug, PartialEq, Eq)]
 pub struct Station {
     pub back_k: i64,
@@ -23,8 +26,8 @@ impl Station {
         i128::from(self.readings[staff][place])
     }
 
-    fn constant(&self, staff: usize) -> i128 {
-        i128::from([self.back_k, self.fore_k][staff])
+    fn constant(&self, staff: usize, staffs: Staffs) -> i128 {
+        staffs.constant([self.back_k, self.fore_k][staff])
     }
 
     /// Sight length in dm: u - l.
@@ -37,21 +40,22 @@ impl Station {
         self.sight(BACK) - self.sight(FORE)
     }
 
-    /// Face difference in mm: e = K + m - r.
-    pub fn e(&self, staff: usize) -> i128 {
-        self.constant(staff) + self.reading(staff, BLACK) - self.reading(staff, RED)
+    /// Face difference in mm or tenths: e = K + m - r.
+    pub fn e(&self, staff: usize, staffs: Staffs) -> i128 {
+        let readings = self.reading(staff, BLACK) - self.reading(staff, RED);
+        self.constant(staff, staffs) + staffs.parts() * readings
     }
 
-    /// Height difference of the faces in mm: back e - fore e.
-    pub fn faces(&self) -> i128 {
-        self.e(BACK) - self.e(FORE)
+    /// Height difference of the faces in mm or tenths: back e - fore e.
+    pub fn faces(&self, staffs: Staffs) -> i128 {
+        self.e(BACK, staffs) - self.e(FORE, staffs)
     }
 
-    /// Twice the station height, in half mm.
-    pub fn twice_height(&self) -> i128 {
-        (self.reading(BACK, BLACK) - self.reading(FORE, BLACK))
-            + (self.reading(BACK, RED) - self.reading(FORE, RED))
-            - (self.constant(BACK) - self.constant(FORE))
+    /// Twice the station height, in half mm or a tenth of that.
+    pub fn twice_height(&self, staffs: Staffs) -> i128 {
+        let readings = (self.reading(BACK, BLACK) - self.reading(FORE, BLACK))
+            + (self.reading(BACK, RED) - self.reading(FORE, RED));
+        staffs.parts() * readings - (self.constant(BACK, staffs) - self.constant(FORE, staffs))
     }
 
     /// Threads and blacks are 0 to 3,000, reds 0 to 7,999.
@@ -75,9 +79,9 @@ impl Station {
     }
 }
 
-/// G: the sum of twice-heights of a run, in half mm.
-pub fn sum_of_heights(run: &[Station]) -> i128 {
-    run.iter().map(Station::twice_height).sum()
+/// G: the sum of twice-heights of a run, in half mm or a tenth of that.
+pub fn sum_of_heights(run: &[Station], staffs: Staffs) -> i128 {
+    run.iter().map(|one| one.twice_height(staffs)).sum()
 }
 
 /// s: the sum of all sights of a run, in dm.

@@ -1,4 +1,4 @@
-//! The text book (document 01, "The text book and the report"; document 02, W-202 and W-204),
+//! The text book (document 01, "The text book and the report"; document 02, W-202 to W-204),
 //! read from any bytes.
 
 use crate::plain::{Call, Opened};
@@ -71,6 +71,7 @@ pub fn fields_of(tag: &[u8]) -> Option<usize> {
         b"SPR" => Some(4),
         b"FIN" => Some(1),
         b"ANG" => Some(6),
+        b"KON" => Some(2),
         _ => None,
     }
 }
@@ -106,6 +107,7 @@ fn call(tag: &[u8], n: &[i64]) -> Call {
         b"DRS" => Call::DropSection,
         b"FIN" => Call::CloseSpur(n[0]),
         b"ANG" => Call::Collimation([n[0], n[1], n[2], n[3], n[4], n[5]]),
+        b"KON" => Call::Constants([n[0], n[1]]),
         _ => Call::CloseLine { number: n[0], height: n[1] },
     }
 }

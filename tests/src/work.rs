@@ -7,15 +7,19 @@ use crate::plain::Call;
 use crate::rules::{Class, STATIONS_OF_A_RUN};
 
 impl Caller<'_> {
-    /// Opens the line and tests the level; before, between and after something may go wrong.
+    /// Opens the line, gives measured constants where it has them, and tests the level; before, between and after something may go wrong.
     pub fn set_out(&mut self) {
         let goal = Goal { stations: 2, sum: 400, twice: 0 };
         if self.mistaken() {
-            match self.random.below(3) {
+            match self.random.below(4) {
                 0 => {
                     self.good_station(&goal);
                 }
                 1 => self.trouble(&goal),
+                2 => {
+                    let unopened = self.doubtful_constants();
+                    self.put(unopened);
+                }
                 _ => self.wrong_opening(),
             }
         }
@@ -25,6 +29,7 @@ impl Caller<'_> {
             let again = self.doubtful_opening();
             self.put(again);
         }
+        self.measure();
         self.collimate();
     }
 
@@ -137,13 +142,14 @@ impl Caller<'_> {
     pub fn afterwards(&mut self) {
         let goal = Goal { stations: 2, sum: 400, twice: 0 };
         for _ in 0..self.random.below(4) {
-            let call = match self.random.below(7) {
+            let call = match self.random.below(8) {
                 0 => self.doubtful_opening(),
                 1 => self.doubtful_closing(),
                 2 => Call::EndRun(self.doubtful_number()),
                 3 => self.random.pick(&[Call::DropRun, Call::DropSection]).clone(),
                 4 => any_call(self.random),
                 5 => self.doubtful_collimation(),
+                6 => self.doubtful_constants(),
                 _ => {
                     self.good_station(&goal);
                     continue;

@@ -1,7 +1,7 @@
 //! The adjustment call, compared with the other implementation; and its promises, checked in exact fractions.
 use std::collections::BTreeMap;
 
-use level_tests::adjust::{adjust, corrections, exact_height, keeps_promises};
+use level_tests::adjust::{adjust, corrections, exact_height, keeps_promises, QUARTERS};
 use level_tests::lent::{any, sound, Lent};
 use level_tests::random::Random;
 use levelbook::{Leg, Refusal};
@@ -28,7 +28,7 @@ fn compare(start: i64, end: i64, sections: &[Section], places: usize) -> (u8, Ve
     }
     let (heights, further) = given.split_at(sections.len());
     assert_eq!(further, &list_of(places)[sections.len()..], "{start} {end} {sections:?}: further places");
-    assert_eq!(keeps_promises(start, Some(end), sections, heights, &corrections(start, sections, heights)), Ok(()));
+    assert_eq!(keeps_promises(QUARTERS, start, Some(end), sections, heights, &corrections(QUARTERS, start, sections, heights)), Ok(()));
     (number, given)
 }
 
@@ -169,7 +169,7 @@ fn a_hundred_thousand_random_lines() {
         let number = number_of(start, end, &sections, places);
         *met.entry(number).or_insert(0) += 1;
         if number == 0 {
-            let exact = (1..=sections.len()).map(|k| exact_height(start, Some(end), &sections, k));
+            let exact = (1..=sections.len()).map(|k| exact_height(QUARTERS, start, Some(end), &sections, k));
             ties += exact.filter(|(n, d)| 2 * n.rem_euclid(*d) == *d).count();
         }
     }

@@ -3,6 +3,7 @@ use std::collections::BTreeMap;
 
 use level_tests::adjust::closing_keeps_promises;
 use level_tests::closing::{Closing, Point};
+use level_tests::constants::Staffs;
 use level_tests::figures::{figures_of, read, FIGURES};
 use level_tests::generate::book;
 use level_tests::mutate::any_call;
@@ -31,6 +32,7 @@ fn typed(call: &Call) -> levelbook::Call {
         Call::CloseLine { number, height } => levelbook::Call::CloseLine { number, height },
         Call::OpenSpur(Opened { order, instrument, start, height }) => levelbook::Call::OpenSpur { order, instrument, start, height },
         Call::CloseSpur(number) => levelbook::Call::CloseSpur { number },
+        Call::Constants([staff_4687, staff_4787]) => levelbook::Call::Constants { staff_4687, staff_4787 },
         Call::Collimation([a1, b1, a2, b2, d1, d2]) => levelbook::Call::Collimation { readings: [a1, b1, a2, b2], distances: [d1, d2] },
     }
 }
@@ -54,7 +56,7 @@ fn compare_typed(calls: &[Call], numbers: &[u8], reading: &Reading, closed: &Opt
 
 /// A kind that is no call's.
 fn no_kind(random: &mut Random) -> i64 {
-    *random.pick(&[0, 10, 11, -1, -2, 257, 265, (1 << 32) + 1, (1 << 62) + 2, i64::MAX, i64::MIN, i64::MIN + 3])
+    *random.pick(&[0, 11, 12, -1, -2, 257, 265, 266, (1 << 32) + 1, (1 << 62) + 2, i64::MAX, i64::MIN, i64::MIN + 3])
 }
 
 /// A list over another's first places, as far as it has places.
@@ -65,17 +67,19 @@ fn over<T: Copy>(list: &[T], old: &[T]) -> Vec<T> {
     written
 }
 
-/// In the counts, the closing of a line and of a spur.
+/// In the counts, the closing of a line and of a spur, and of one with measured constants.
 const CLOSED: u8 = 100;
 const SPUR_CLOSED: u8 = 101;
+const MEASURED_CLOSED: u8 = 102;
 
 /// What a closing gives keeps its promises, whose exact fractions are computed from the standing list.
 fn check_closing(reading: &Reading, closing: &Closing, counts: &mut BTreeMap<u8, u64>) {
     let opened = reading.opened.expect("a closed line was opened");
-    let kept = closing_keeps_promises(opened.height, reading.end_height, &reading.sums_of_sections(), closing);
+    let kept = closing_keeps_promises(reading.staffs.units(), opened.height, reading.end_height, &reading.sums_of_sections(), closing);
     assert_eq!(kept, Ok(()), "{reading:?}");
     let which = if reading.class == Some(Class::Spur) { SPUR_CLOSED } else { CLOSED };
     *counts.entry(which).or_default() += 1;
+    *counts.entry(MEASURED_CLOSED).or_default() += u64::from(reading.staffs != Staffs::Nominal);
 }
 
 /// Runs a list of calls both ways, with entries of no kind between them and a rest behind them, and counts the calls' numbers, these 1s and the closings.
@@ -126,10 +130,10 @@ fn hundred_thousand_lists() {
         assert!(counts.get(&number).is_some_and(|&count| count >= 20), "too few of {number}: {counts:?}");
     }
     assert_eq!(counts.get(&20), None);
-    for number in [41, 44, 45, 46] {
+    for number in 41..=46 {
         assert!(counts[&number] >= 5_000, "too few of {number}: {counts:?}");
     }
-    assert!(counts[&CLOSED] >= 20_000 && counts[&SPUR_CLOSED] >= 10_000, "too few closings: {counts:?}");
+    assert!(counts[&CLOSED] >= 20_000 && counts[&SPUR_CLOSED] >= 10_000 && counts[&MEASURED_CLOSED] >= 10_000, "too few closings: {counts:?}");
 }
 
 /// Calls whose arguments are anything, in any order, one in two lists after an opening.

@@ -112,8 +112,9 @@ fn what_the_random_lists_meet() {
             refused += u64::from(reading.apply(&call) == Answer::Refused(32) && length_in_work(&reading) < 2_000);
         }
         let class = reading.class;
-        let beyond = |d, r| class.and_then(|class| class.terms().both_ways).is_some_and(|set| !within(set.agree.0, d, set.agree.1, r));
-        stand += reading.sections.iter().filter(|one| one.d().is_some_and(|d| beyond(d, one.r()))).count() as u64;
+        let (staffs, parts) = (reading.staffs, reading.staffs.parts());
+        let beyond = |d, r| class.and_then(|class| class.terms().both_ways).is_some_and(|set| !within(set.agree.0, d, parts * parts * set.agree.1, r));
+        stand += reading.sections.iter().filter(|one| one.d(staffs).is_some_and(|d| beyond(d, one.r()))).count() as u64;
     }
     assert!(stand >= 1_000 && refused >= 500, "{stand} stand, {refused} are refused");
 }

@@ -64,6 +64,7 @@ fn every_tag_gives_its_call() {
         (line("END", &[3, -5]), Call::CloseLine { number: 3, height: -5 }),
         (line("FIN", &[3]), Call::CloseSpur(3)),
         (line("ANG", &[1, -2, 3, 4, 5, 99_999_999]), Call::Collimation([1, -2, 3, 4, 5, 99_999_999])),
+        (line("KON", &[46_873, -9_999_999]), Call::Constants([46_873, -9_999_999])),
     ];
     for (written, call) in calls {
         assert_eq!(parse_line(&written.unwrap()), Ok(call));
@@ -72,7 +73,7 @@ fn every_tag_gives_its_call() {
 
 #[test]
 fn one_comes_before_two() {
-    let cases: [(&str, u8); 21] = [
+    let cases: [(&str, u8); 26] = [
         ("RUN        ", 2),
         ("RUN       x", 2),
         ("RUN       xx", 1),
@@ -94,6 +95,11 @@ fn one_comes_before_two() {
         ("ANG            5951    6043    6067    6800   40300", 2),
         ("ANG    5937    5951    6043    6067    6800   40300       0", 1),
         ("ANG    5937    5951    6043    6067    6800   4030O       0", 1),
+        ("KON   46873", 2),
+        ("KON           47866", 2),
+        ("KON  4687.3  4786.6", 2),
+        ("KON   46873   47866       0", 1),
+        ("kon   46873   47866", 1),
     ];
     for (words, refusal) in cases {
         assert_eq!(parse_line(&filled(words)), Err(refusal), "{words:?}");
