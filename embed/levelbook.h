@@ -59,11 +59,13 @@ uint8_t level_adjust(const struct level_leg *legs, size_t count, int64_t start, 
  *   3 end run: number                                         7 open spur: as 1, order 4 alone
  *   4 drop run                                                8 close spur: number
  *   9 collimation: A1, B1, A2, B2 (sums of four readings), D1, D2 (distances), in mm
+ *   10 constants, directly after 1 or 7: the measured ones of the staff 4,687, then of the staff 4,787, in tenths of a mm
  * An entry of another kind is refused with 1, and so is a rest of 1 to 10 numbers at the end, which is one entry more; nothing else of them is looked
  * at, and the book stays as it is. The answer is how many entries there are. Each entry's number goes into its place of `numbers`, the figures of the
  * book that is left into `figures`, both as far as there are places. There are LEVEL_FIGURES figures: W, L, n, T and verdict, 0 while the line is not
  * closed; of the present run its stations, the sums of twice-heights, of sights and of d; the finished sections; then number, S, correction and height
- * of the start and each section, 0 where there is none. Library runner. */
+ * of the start and each section, 0 where there is none. W and corrections are in quarter mm, the sum of twice-heights in half mm; after a 10 that was
+ * taken each is in units one tenth as large. Library runner. */
 size_t level_run(const int64_t *calls, size_t count, uint8_t *numbers, size_t answers, int64_t *figures, size_t places);
 
 /* The whole number nearest to n / d, a tie going to the even one. A d outside 1 to 4 * 10^18 stands for the nearest one inside. Library rootcalls. */

@@ -31,6 +31,10 @@ pub enum Call {
     /// Tests the level before the first station (source document 000, B13, method I1-A-B-I2), all in mm: the sums A1, B1, A2, B2 of four readings each
     /// of staffs A and B from I1 and I2; the distances D1 and D2 of the near and the far staff.
     Collimation { readings: [i64; 4], distances: [i64; 2] },
+    /// The measured constants of the staffs in place of 4,687 and 4,787 mm, in tenths of a mm; directly after `Open` or `OpenSpur`, as far as calls that
+    /// are taken go. Stations name their staffs by 4,687 and 4,787 all the same. Closure, corrections and twice-heights are then in units one tenth as
+    /// large.
+    Constants { staff_4687: i64, staff_4787: i64 },
 }
 
 impl Call {
@@ -48,6 +52,7 @@ impl Call {
             Call::OpenSpur { order, instrument, start, height } => [7, order, instrument, start, height, 0, 0, 0, 0, 0, 0],
             Call::CloseSpur { number } => [8, number, 0, 0, 0, 0, 0, 0, 0, 0, 0],
             Call::Collimation { readings: [a1, b1, a2, b2], distances: [d1, d2] } => [9, a1, b1, a2, b2, d1, d2, 0, 0, 0, 0],
+            Call::Constants { staff_4687, staff_4787 } => [10, staff_4687, staff_4787, 0, 0, 0, 0, 0, 0, 0, 0],
         }
     }
 }
@@ -58,7 +63,7 @@ pub struct Point {
     pub number: i64,
     /// From the start, in half dm.
     pub distance: i64,
-    /// Of the section that ends here, in quarter mm.
+    /// Of the section that ends here, in quarter mm; with measured constants in a tenth of that.
     pub correction: i64,
     /// In mm.
     pub height: i64,
@@ -67,7 +72,7 @@ pub struct Point {
 /// The figures of a closed line.
 #[derive(Clone, Debug, PartialEq, Eq)]
 pub struct Closing {
-    /// W, in quarter mm; 0 on a spur, which has no known end height.
+    /// W, in quarter mm, with measured constants in a tenth of that; 0 on a spur, which has no known end height.
     pub closure: i64,
     /// L, in half dm.
     pub length: i64,
@@ -84,7 +89,7 @@ pub struct Closing {
 #[derive(Clone, Copy, Debug, PartialEq, Eq)]
 pub struct Run {
     pub stations: i64,
-    /// The sum of the stations' height differences, in half mm.
+    /// The sum of the stations' height differences, in half mm; with measured constants in a tenth of that.
     pub twice_height: i64,
     /// The sum of the sights, in dm.
     pub sights: i64,
@@ -152,6 +157,29 @@ pub struct Outcome {
 /// let closing = outcome.closing.unwrap();
 /// assert_eq!((closing.closure, closing.length, closing.accidental), (0, 2_564, 195));
 /// assert_eq!((closing.points[1].correction, closing.points[1].height), (-1, 10_658));
+/// ```
+///
+/// The first ones again with measured constants: the first station's height has a tenth of half a millimetre in its last place, and in the run, whose two
+/// stations have the staffs in turn, the constants cancel:
+///
+/// ```
+/// # use levelbook::{run_calls, Call, Staff};
+/// # let staff = |constant, [upper, lower, black, red]: [i64; 4]| Staff { constant, upper, lower, black, red };
+/// # let first = Call::Station { back: staff(4787, [1571, 1197, 1384, 6171]), fore: staff(4687, [739, 363, 551, 5239]) };
+/// # let second = Call::Station { back: staff(4687, [1965, 1700, 1832, 6519]), fore: staff(4787, [2141, 1874, 2007, 6793]) };
+/// let constants = Call::Constants { staff_4687: 46_873, staff_4787: 47_866 };
+/// let mut calls = vec![
+///     Call::Open { order: 4, instrument: 3, start: 1, height: 10_000 },
+///     constants,
+///     Call::Collimation { readings: [5937, 5951, 6043, 6067], distances: [6800, 40_300] },
+///     first,
+///     constants,
+/// ];
+/// let outcome = run_calls(&calls);
+/// assert_eq!((&outcome.numbers[..], outcome.run.twice_height), (&[0, 0, 0, 0, 43][..], 16_657));
+/// calls.extend([second, Call::EndRun { number: 2 }, Call::CloseLine { number: 2, height: 10_657 }]);
+/// let closing = run_calls(&calls).closing.unwrap();
+/// assert_eq!((closing.closure, closing.points[1].correction, closing.points[1].height), (40, -40, 10_657));
 /// ```
 pub fn run_calls(calls: &[Call]) -> Outcome {
     let list: Vec<i64> = calls.iter().flat_map(Call::numbers).collect();
