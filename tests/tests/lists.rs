@@ -32,8 +32,8 @@ fn typed(call: &Call) -> levelbook::Call {
         Call::CloseLine { number, height } => levelbook::Call::CloseLine { number, height },
         Call::OpenSpur(Opened { order, instrument, start, height }) => levelbook::Call::OpenSpur { order, instrument, start, height },
         Call::CloseSpur(number) => levelbook::Call::CloseSpur { number },
-        Call::Constants([staff_4687, staff_4787]) => levelbook::Call::Constants { staff_4687, staff_4787 },
         Call::Collimation([a1, b1, a2, b2, d1, d2]) => levelbook::Call::Collimation { readings: [a1, b1, a2, b2], distances: [d1, d2] },
+        Call::Constants([staff_4687, staff_4787]) => levelbook::Call::Constants { staff_4687, staff_4787 },
     }
 }
 

@@ -7,7 +7,7 @@ use level_tests::examples::{book, examples};
 use level_tests::generate::{line, Kind};
 use level_tests::largest::{after_heading, blank_lines, largest_book, refused_late, sixty_four_sections};
 use level_tests::mutate::any_call;
-use level_tests::opening::{opening, usual, TABLE_B7};
+use level_tests::opening::{opening, usual, MEASURED, TABLE_B7};
 use level_tests::plain::Call;
 use level_tests::random::Random;
 use level_tests::rules::Class;
@@ -111,8 +111,8 @@ fn sixty_four_sections_in_a_text() {
 /// 777 lines: all refused but the heading; all taken; 64 sections with refused lines before the end; and any calls after a long line's.
 #[test]
 fn the_largest_text() {
-    let [order_5, ang] = [Call::Open(usual(5)), Call::Collimation(TABLE_B7)].map(|call| line_of(&call).unwrap());
-    for (line, refusal) in [(filled(""), 1), (filled("RUN"), 2), (order_5, 3), (filled("DRR"), 21), (filled("FIN       1"), 21), (ang, 21)] {
+    let [order_5, ang, kon] = [Call::Open(usual(5)), Call::Collimation(TABLE_B7), Call::Constants(MEASURED)].map(|call| line_of(&call).unwrap());
+    for (line, refusal) in [(filled(""), 1), (filled("RUN"), 2), (order_5, 3), (filled("DRR"), 21), (filled("FIN       1"), 21), (ang, 21), (kon, 43)] {
         let text = after_heading(&line);
         assert_eq!(text.len(), LONGEST_TEXT);
         let report = report(&text).unwrap();
