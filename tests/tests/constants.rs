@@ -127,6 +127,8 @@ fn constants_that_are_refused() {
     let late = [open(Class::Fourth), vec![ANG, KON, first[0].clone(), KON]].concat();
     assert_eq!(run(&late).1, figures(&[opening(Class::Fourth), first[..1].to_vec()].concat()));
     assert_eq!(run(&late).1[6], 1_665);
+    let out = [open(Class::Fourth), vec![Call::Constants([46_769, 47_870]), ANG, first[0].clone()]].concat();
+    assert_eq!(run(&out).1, figures(&[opening(Class::Fourth), first[..1].to_vec()].concat()));
     // the first ones stay
     let twice = [open(Class::Fourth), vec![KON, Call::Constants([46_770, 47_970]), ANG], second.clone()].concat();
     assert_eq!(run(&twice).1, figures(&[measured_opening(Class::Fourth, MEASURED), second].concat()));
@@ -168,6 +170,31 @@ fn the_constant_of_each_staff() {
         let [a, b] = constants;
         let answer = |call: Call| after(&with(Class::Fourth, a, b), &[call])[0];
         assert_eq!([faces(4, 0), turned(0, 4), faces(0, 4), turned(4, 0)].map(answer), answers);
+    }
+}
+
+/// The constants are those of every station of the line: of a run's first one and of later ones, in a return, after a section and after drops. The staff 4,687 has an e
+/// of 20 tenths and a.
+#[test]
+fn every_station_of_the_line() {
+    let staff = |k: i64, e: i64| [1_600, 1_400, 1_500, k + 1_500 - e];
+    let wide = Call::Station { back_k: SECOND, fore_k: FIRST, readings: [staff(SECOND, 2), staff(FIRST, 0)] };
+    let out = run_of(FIRST, 625, 0, &[0, 0]);
+    for before in [
+        vec![],
+        out[..1].to_vec(),
+        [&out[..], &out[..1]].concat(),
+        [&out[..], &[end(2)]].concat(),
+        section(1, 2, 0, 0),
+        [&out[..1], &[Call::DropRun]].concat(),
+        [&out[..1], &[Call::DropSection]].concat(),
+        [&out[..], &[end(2), Call::DropSection]].concat(),
+    ] {
+        let answers = [0, 1, -1].map(|a| after(&[with(Class::Third, a, 0), before.clone()].concat(), &[wide.clone()])[0]);
+        assert_eq!(answers, [0, 27, 0], "{before:?}");
+        // no rise of the blacks, and an e of 19 tenths of the back staff alone; where the count is even a station before it has one of −1 of its fore staff
+        let given = figures(&[with(Class::Third, -1, 0), before.clone(), vec![wide.clone()]].concat());
+        assert_eq!(given[6], if given[5] % 2 == 1 { -19 } else { -20 }, "{before:?}");
     }
 }
 
