@@ -189,10 +189,11 @@ impl Caller<'_> {
                 let most = if place == RED { 7_999 } else { 3_000 };
                 staff[place] = *self.random.pick(&[-1, 0, most, most + 1]);
             }
-            7 => match self.random.below(4) {
+            7 => match self.random.below(5) {
                 0 => *back_k = *fore_k,
                 1 => *fore_k = *back_k,
                 2 => *back_k += self.random.between(-1, 1),
+                3 => [back_k, fore_k].into_iter().for_each(|one| *one *= 10), // in tenths, as KON has them
                 _ => *fore_k = *self.random.pick(&[0, 4_687, 4_787, 4_737]),
             },
             _ => match self.random.below(4) {
