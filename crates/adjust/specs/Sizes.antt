@@ -5,7 +5,7 @@ use Rattle.std.specs.Prelude.{ℕ, ◌+◌, ◌*◌}
 abbrev pub highest : ℕ
 highest = 8999999
 
--- of a section: Q in quarter mm, R in half dm, D in half mm, and t. No section of a book made by calls has more
+-- of a section: Q in quarter mm, R in half dm, D in half mm, or Q and D in tenths of these, and t. No section of a book made by calls has more
 abbrev pub most_q : ℕ
 most_q = 50000000
 

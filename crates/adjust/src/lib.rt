@@ -56,7 +56,7 @@ impl Opening {
 }
 
 // A finished section: the benchmark that it ends on, its height difference Q in quarter mm, its distance R in half dm, and the discrepancy D
-// of its two runs in half mm, 0 for one run.
+// of its two runs in half mm, 0 for one run. Where the staffs' constants were measured, Q and D, and so W and the corrections, are in tenths of these units.
 #[derive(Clone, Copy, Default, PartialEq, Eq)]
 pub struct Section {
     pub number: i64,

@@ -96,7 +96,7 @@ both_ways number out back =
 
 -- ---- refusal 20
 
--- the most of a run: |G| in half mm, s and the sum of d in dm
+-- the most of a run: |G| in half mm or in tenths of it, s and the sum of d in dm
 abbrev pub most_g : ℕ
 most_g = 25000000
 

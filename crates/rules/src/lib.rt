@@ -17,7 +17,7 @@ pub enum Stage {
     Closed,
 }
 
-// A run: how many stations, G in half mm, s in dm, the sum of d in dm, and the constant of the last fore staff, 0 for none.
+// A run: how many stations, G in half mm or, by measured constants, in tenths of it, s in dm, the sum of d in dm, and the constant of the last fore staff, 0 for none.
 // `last` is no Option: 0 is no staff's constant, so that it can say that there is none.
 #[derive(Clone, Copy, Default, PartialEq, Eq)]
 pub struct Run {
