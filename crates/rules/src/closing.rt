@@ -104,7 +104,8 @@ fn check_close_on(standing: &Standing, number: i64, height: i64) -> Result<(), R
     check_line(standing, height, shut)
 }
 
-// Of closing on a number, and on a known height where the line is no spur.
+// Of closing on a number, and on a known height where the line is no spur. Once in a text: built into the loop over its lines, it makes each line slower.
+#[inline(never)]
 #[tactic(auto, unfolding(crate::specs::Rules::book_refusal))]
 pub fn check_close(b: &Book, number: i64, end: Option<i64>) -> Result<(), Refusal>
     ensures { number_of result ≡ book_refusal (state_of b.now) (closing_on number end) }
