@@ -3,7 +3,7 @@ use Rattle.std.proofs.Common.{◌≡◌, sym, ap, ◌∙◌, ◌+◌, ◌-◌, �
 use Rattle.std.proofs.KnownBytes.{Consumes-trans}
 use borrow.Rule.Slice.PartMut.{put_mid}
 use lib.Seq.{take-append-le, take-append-add, length-take-le}
-use Rattle.reduce.proofs.read_input.Goals as goal
+use Rattle.input.proofs.read_input.Goals as goal
 
 -- `d` with e in the place of `d[at..]`
 module _ (d e : List ℕ) (at n : ℕ) (h : at ≤ length d) where

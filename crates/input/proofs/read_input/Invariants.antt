@@ -1,7 +1,7 @@
 -- What is read grows with each turn, within the buffer, and is what the input began with.
 use Rattle.std.proofs.Common.{length, take, ◌-◌, ◌≤◌}
 use Rattle.std.specs.Io.KnownBytes.{Consumes}
-use Rattle.reduce.proofs.read_input.Given as goal
+use Rattle.input.proofs.read_input.Given as goal
 
 abbrev pub invariant-loop-count : goal.invariant-loop-count
 invariant-loop-count g l = record {
