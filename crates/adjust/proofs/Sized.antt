@@ -19,12 +19,14 @@ use Rattle.station.specs.declared.Staffs.{Staffs}
 use Rattle.station.specs.declared.Staffs.TheVariants.{Nominal, Measured}
 use Rattle.adjust.specs.declared.Opening.{Opening}
 use Rattle.adjust.specs.declared.Section.{Section}
+use Rattle.adjust.specs.declared.SectionSums.{SectionSums}
 use Rattle.adjust.specs.declared.Totals.{Totals}
 use Rattle.adjust.specs.declared.terms.Terms.{Terms}
 use Rattle.adjust.specs.Sizes.{highest, most_q, most_r, most_units, most_prints, most_squared, most_sum_q, most_w}
 use Rattle.adjust.specs.Sections.{section_fits, any_outside, misfit, height_in_range}
 use Rattle.adjust.specs.Terms.{squared_of}
-use Rattle.adjust.specs.Line.{quarters, wholes, units_of, line_height, line_length, totals, totals_by, frame, frame_of, closing}
+use Rattle.adjust.specs.Line.{quarters, wholes, units_of, line_height, line_length, totals_by, frame, frame_of, closing}
+use Rattle.adjust.specs.Kept.{totals_from, sums_fit}
 use Rattle.adjust.specs.Frames.{figures_fit, line_totals, adjusted_of, line_figures}
 use Rattle.adjust.specs.Call.{adjust_tests, adjust_refusal}
 use Rattle.adjust.specs.code.Bounds.{OneTo, Fitted, Between, Framed}
@@ -122,10 +124,10 @@ pub ruleset fits = (units_in, squared_in, fit_between, fit_fitted, to_z-of_z)
 
 -- ---- what is answered of figures that fit, and of those that do not: two laws of their own
 
-pub totals_by_lem : (c : Staffs) (start end : ℤ) (ss : List Section) {t : Bool} → figures_fit start end ss ≡ t
-    → line_totals c start end ss ≡ cond t (Some (totals (units_of c) start end ss)) None
+pub totals_given : (c : Staffs) (start end : ℤ) (s : SectionSums) → sums_fit s ≡ true → height_in_range start ≡ true → height_in_range end ≡ true
+    → line_totals c start end s ≡ Some (totals_from (units_of c) start end s)
 unfolding line_totals
-totals_by_lem c start end ss e = ap (λ (t : Bool). cond t (Some (totals (units_of c) start end ss)) None) e
+totals_given c start end s f g h = λ i. cond (f i && g i && h i) (Some (totals_from (units_of c) start end s)) None
 
 pub figures_by : (o : Opening) (end : ℤ) (ss : List Section) {t : Bool} → figures_fit o.start.height end ss ≡ t → line_figures o end ss ≡ cond t (Some (adjusted_of (closing o end ss))) None
 unfolding line_figures

@@ -6,10 +6,12 @@ use Rattle.station.specs.declared.Staffs.{Staffs}
 use Rattle.adjust.specs.declared.Opening.{Opening}
 use Rattle.adjust.specs.declared.Section.{Section}
 use Rattle.adjust.specs.declared.Point.{Point}
+use Rattle.adjust.specs.declared.SectionSums.{SectionSums}
 use Rattle.adjust.specs.declared.Totals.{Totals}
 use Rattle.adjust.specs.declared.LineFigures.{LineFigures}
 use Rattle.adjust.specs.Sections.{misfit, height_in_range}
-use Rattle.adjust.specs.Line.{units_of, totals, Closing, closing}
+use Rattle.adjust.specs.Line.{units_of, Closing, closing}
+use Rattle.adjust.specs.Kept.{totals_from, sums_fit}
 
 abbrev pub no_point : Point
 no_point = record { number = pos 0; distance = pos 0; correction = pos 0; height = pos 0 }
@@ -18,8 +20,9 @@ no_point = record { number = pos 0; distance = pos 0; correction = pos 0; height
 unfoldable pub figures_fit : ℤ → ℤ → List Section → Bool
 figures_fit start end ss = ltb 0 (length ss) && not (misfit ss) && height_in_range start && height_in_range end
 
-unfoldable pub line_totals : Staffs → ℤ → ℤ → List Section → Option Totals
-line_totals c start end ss = cond (figures_fit start end ss) (Some (totals (units_of c) start end ss)) None
+-- W and L by the sums that a line keeps; none where these or the heights are outside their ranges
+unfoldable pub line_totals : Staffs → ℤ → ℤ → SectionSums → Option Totals
+line_totals c start end s = cond (sums_fit s && height_in_range start && height_in_range end) (Some (totals_from (units_of c) start end s)) None
 
 -- a closing, its points in an array
 abbrev pub adjusted_of : Closing → LineFigures

@@ -2,6 +2,7 @@ pub mod Sizes
 pub mod Sections
 pub mod Terms
 pub mod Line
+pub mod Kept
 pub mod Claims
 pub mod Frames
 pub mod Call

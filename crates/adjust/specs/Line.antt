@@ -35,9 +35,13 @@ line_length ss = sum (map (λ (x : Section). x.distance) ss)
 abbrev pub line_height : List Section → ℤ
 line_height ss = sum (map (λ (x : Section). x.height) ss)
 
--- W, in the units of Q, of the sections between the known heights `start` and `end`, mm
+-- W, in the units of Q, of a ΣQ between the known heights `start` and `end`, mm
+abbrev pub closure_by : ℤ → ℤ → ℤ → ℤ → ℤ
+closure_by units start end q = units *ℤ start +ℤ q -ℤ units *ℤ end
+
+-- of the sections between these
 abbrev pub closure : ℤ → ℤ → ℤ → List Section → ℤ
-closure units start end ss = units *ℤ start +ℤ line_height ss -ℤ units *ℤ end
+closure units start end ss = closure_by units start end (line_height ss)
 
 abbrev pub totals : ℤ → ℤ → ℤ → List Section → Totals
 totals units start end ss = record { closure = closure units start end ss; distance = line_length ss }
@@ -95,9 +99,13 @@ points f number ss = record { number = number; distance = pos 0; correction = po
 abbrev pub accidental : ℕ → Section → ℤ
 accidental squared x = round_even (pos 500000 *ℤ (x.discrepancy *ℤ x.discrepancy)) (squared * nat_abs x.distance)
 
--- T: 0 where sections are levelled one way
+-- t of a section by the class of its line: 0 where sections are levelled one way
+abbrev pub section_error : Terms → ℕ → Section → ℤ
+section_error terms squared x = cond terms.double (accidental squared x) (pos 0)
+
+-- T
 abbrev pub accidental_sum : Terms → ℕ → List Section → ℤ
-accidental_sum terms squared ss = cond terms.double (sum (map (accidental squared) ss)) (pos 0)
+accidental_sum terms squared ss = sum (map (section_error terms squared) ss)
 
 -- none below 20 sections and where they are levelled one way
 abbrev pub verdict : Terms → ℕ → ℤ → Verdict

@@ -1,5 +1,5 @@
 -- The sections of a line, as a list and in an array.
-use Rattle.std.specs.Prelude.{Bool, not, ◌&&◌, ◌||◌, List, length, leb, ℤ, pos, neg_ℤ}
+use Rattle.std.specs.Prelude.{Bool, not, ◌&&◌, ◌||◌, List, length, leb, replicate, ℤ, pos, neg_ℤ}
 use Rattle.numbers.specs.Numbers.{within, between, any_of, over, filled}
 use Rattle.adjust.specs.declared.Section.{Section}
 use Rattle.adjust.specs.declared.Sections.{Sections}
@@ -15,9 +15,9 @@ no_section = record { number = pos 0; height = pos 0; distance = pos 0; discrepa
 abbrev pub sections_of : Sections → List Section
 sections_of s = filled no_section s.count s.places
 
--- the array s with the list ss in it
+-- the array s with the list ss in it in the stead of the sections that it held: a place that is freed is cleared (document 02, W-210)
 unfoldable pub holding : Sections → List Section → Sections
-holding s ss = record { count = length ss; places = over ss s.places }
+holding s ss = record { count = length ss; places = over ss (over (replicate s.count no_section) s.places) }
 
 -- ---- ranges
 

@@ -1,9 +1,8 @@
 // The accidental error: t of a section, T of a line, and the verdict.
 // The bounds stand in each contract: a slice of sections that is lent has no type that carries them.
-ghost use Rattle.std.specs.Prelude.{◌≡◌, map, ◌≤◌, nat_abs};
-ghost use Rattle.numbers.specs.Numbers.{sum};
+ghost use Rattle.std.specs.Prelude.{◌≡◌, ◌≤◌, nat_abs};
 ghost use Rattle.adjust.specs.Sizes.{most_d, most_allowed, most_squared};
-ghost use Rattle.adjust.specs.Line.{accidental, accidental_sum, verdict};
+ghost use Rattle.adjust.specs.Line.{accidental, section_error, accidental_sum, verdict};
 ghost use Rattle.adjust.specs.code.Bounds.{OneTo, Fitted, LegBounds};
 
 use super::terms::Terms;
@@ -19,28 +18,28 @@ fn accidental(squared: i64, x: &Section) -> i64
     round_half_even(500000 * (d * d), squared * x.distance)
 }
 
-// The sum of t over the sections, in a loop, as the sum of Q is (`sums_of`).
-fn squares_of(squared: i64, sections: &[Section]) -> i64
-    requires { OneTo most_squared squared × Fitted sections.now }
-    ensures { result ≡ sum (map (accidental (nat_abs squared)) sections.now) }
+// The same by the class of line: 0 where sections are levelled one way.
+pub(crate) fn section_error(terms: Terms, squared: i64, x: &Section) -> i64
+    requires { OneTo most_squared squared × (nat_abs x.now.discrepancy ≤ most_d) × LegBounds x.now }
+    ensures { result ≡ section_error terms (nat_abs squared) x.now }
 {
-    let mut squares = 0;
-    for x in sections {
-        squares += accidental(squared, x);
+    if terms.double {
+        accidental(squared, x)
+    } else {
+        0
     }
-    squares
 }
 
-// T: 0 where sections are levelled one way.
+// T, in a loop, as the sum of Q is (`sums_of`).
 pub(crate) fn accidental_sum(terms: Terms, squared: i64, sections: &[Section]) -> i64
     requires { OneTo most_squared squared × Fitted sections.now }
     ensures { result ≡ accidental_sum terms (nat_abs squared) sections.now }
 {
-    if terms.double {
-        squares_of(squared, sections)
-    } else {
-        0
+    let mut t = 0;
+    for x in sections {
+        t += section_error(terms, squared, x);
     }
+    t
 }
 
 // The verdict on a T of so many sections.

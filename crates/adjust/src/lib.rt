@@ -2,7 +2,8 @@
 #![tactic(auto)]
 
 ghost use Rattle.std.specs.Prelude.{◌≡◌, ◌≤◌, take};
-ghost use Rattle.adjust.specs.Sections.{sections_of, misfit, height_in_range};
+ghost use Rattle.adjust.specs.Sections.{sections_of, height_in_range};
+ghost use Rattle.adjust.specs.Kept.{unsummed};
 ghost use Rattle.adjust.specs.Frames.{figures_fit, line_totals, adjusted_of, line_figures};
 ghost use Rattle.adjust.specs.Terms.{terms_by};
 ghost use Rattle.adjust.specs.Line.{units_of, closing, verdict_number};
@@ -12,6 +13,7 @@ mod accidental;
 pub mod call;
 pub mod entry;
 mod heights;
+pub mod keeping;
 mod ranges;
 mod sums;
 pub mod terms;
@@ -65,6 +67,14 @@ pub struct Section {
     pub discrepancy: i64,
 }
 
+// The sums over the sections of a line, which it keeps as they come and go: ΣQ, L, and T in hundredths of mm² per km.
+#[derive(Clone, Copy, Default, PartialEq, Eq)]
+pub struct SectionSums {
+    pub height: i64,
+    pub distance: i64,
+    pub accidental: i64,
+}
+
 // The sections of a line in an array. Places from count on do not count.
 // A count beside an array, as there is no heap. No type that holds at most 64: it would take fewer records than before, and one with another count is refused with 20.
 #[derive(Clone, Copy)]
@@ -83,11 +93,11 @@ impl Sections {
         &self.places[..self.count.min(64)]
     }
 
-    // Whether there are more than 64 sections, or one outside the wider range.
-    pub fn misfit(&self) -> bool
-        ensures { result ≡ misfit (sections_of self.now) }
+    // Whether there are more than 64 sections, one outside the wider range, or others than those whose sums are kept.
+    pub fn unsummed(&self, opening: &Opening, sums: &SectionSums) -> bool
+        ensures { result ≡ unsummed opening.now sums.now (sections_of self.now) }
     {
-        64 < self.count || ranges::misfit(self.listed())
+        64 < self.count || keeping::unsummed(opening, sums, self.listed())
     }
 }
 
@@ -182,13 +192,13 @@ fn units_of(staffs: Staffs) -> i64
     QUARTERS * scale_of(staffs) as i64
 }
 
-// W and L of the sections between two known heights, where `figures_fit`.
+// W and L between two known heights by the sums that a line keeps; none where one of these is out of range.
 #[tactic(auto, using(crate::proofs::Sized::fits), unfolding(crate::specs::Frames::line_totals))]
-pub fn totals_of(staffs: Staffs, start: i64, end: i64, sections: &[Section]) -> Option<Totals>
-    ensures { result ≡ line_totals staffs start end sections.now }
+pub fn totals_of(staffs: Staffs, start: i64, end: i64, kept: &SectionSums) -> Option<Totals>
+    ensures { result ≡ line_totals staffs start end kept.now }
 {
-    if figures_fit(start, end, sections) {
-        return Some(sums::totals_between(units_of(staffs), start, end, sections));
+    if kept.fit() && height_in_range(start) && height_in_range(end) {
+        return Some(sums::totals_from(units_of(staffs), start, end, kept.height, kept.distance));
     }
     None
 }

@@ -24,7 +24,7 @@ impl Section {
     }
 
     // Whether Q, R and D are in the wider one.
-    fn fits(&self) -> bool
+    pub fn fits(&self) -> bool
         ensures { result ≡ section_fits self.now }
     {
         self.height.unsigned_abs() <= 50000000

@@ -31,6 +31,7 @@ tag_facts Tag.Spr = record { ten = lit≤ tt; three = refl; back = refl }
 tag_facts Tag.Fin = record { ten = lit≤ tt; three = refl; back = refl }
 tag_facts Tag.Ang = record { ten = lit≤ tt; three = refl; back = refl }
 tag_facts Tag.Kon = record { ten = lit≤ tt; three = refl; back = refl }
+tag_facts Tag.Lft = record { ten = lit≤ tt; three = refl; back = refl }
 
 -- ---- three letters, byte by byte
 
@@ -49,7 +50,8 @@ module _ (w : List ℕ) where
       (cond (are 83 80 82) (Some Tag.Spr)
       (cond (are 70 73 78) (Some Tag.Fin)
       (cond (are 65 78 71) (Some Tag.Ang)
-      (cond (are 75 79 78) (Some Tag.Kon) None)))))))))
+      (cond (are 75 79 78) (Some Tag.Kon)
+      (cond (are 76 70 84) (Some Tag.Lft) None))))))))))
 
 pub tag_three : (w : List ℕ) → 3 ≤ length w → length w < 4 → tag_among tags w ≡ tag_by_bytes w
 unfolding tag_among same

@@ -6,7 +6,7 @@ use Rattle.std.specs.declared.result.Result.{Result}
 use Rattle.numbers.specs.Tables.{first_of}
 use Rattle.numbers.specs.Numbers.{put_at}
 use Rattle.records.specs.declared.Tag.{Tag}
-use Rattle.records.specs.declared.Tag.TheVariants.{Lin, Sta, Run, Drr, Drs, End, Spr, Fin, Ang, Kon}
+use Rattle.records.specs.declared.Tag.TheVariants.{Lin, Sta, Run, Drr, Drs, End, Spr, Fin, Ang, Kon, Lft}
 use Rattle.records.specs.declared.Record.{Record}
 use Rattle.records.specs.declared.Refusal.{Refusal}
 use Rattle.records.specs.declared.Refusal.TheVariants.{NotARecord, BadField}
@@ -28,6 +28,7 @@ letters Spr = 83 ∷ 80 ∷ 82 ∷ []
 letters Fin = 70 ∷ 73 ∷ 78 ∷ []
 letters Ang = 65 ∷ 78 ∷ 71 ∷ []
 letters Kon = 75 ∷ 79 ∷ 78 ∷ []
+letters Lft = 76 ∷ 70 ∷ 84 ∷ []
 
 -- how many numbers follow a tag
 abbrev pub field_count : Tag → ℕ
@@ -41,9 +42,10 @@ field_count Spr = 4
 field_count Fin = 1
 field_count Ang = 6
 field_count Kon = 2
+field_count Lft = 0
 
 abbrev pub tags : List Tag
-tags = Lin ∷ Sta ∷ Run ∷ Drr ∷ Drs ∷ End ∷ Spr ∷ Fin ∷ Ang ∷ Kon ∷ []
+tags = Lin ∷ Sta ∷ Run ∷ Drr ∷ Drs ∷ End ∷ Spr ∷ Fin ∷ Ang ∷ Kon ∷ Lft ∷ []
 
 -- the first of these tags with the letters w
 unfoldable pub tag_among : List Tag → List ℕ → Option Tag

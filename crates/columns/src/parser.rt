@@ -95,6 +95,7 @@ fn field_count(tag: Tag) -> usize
         Tag::Fin => 1,
         Tag::Ang => 6,
         Tag::Kon => 2,
+        Tag::Lft => 0,
     }
 }
 
@@ -114,6 +115,7 @@ fn find_tag(letters: &[u8]) -> Option<Tag>
         b"FIN" => Some(Tag::Fin),
         b"ANG" => Some(Tag::Ang),
         b"KON" => Some(Tag::Kon),
+        b"LFT" => Some(Tag::Lft),
         _ => None,
     }
 }

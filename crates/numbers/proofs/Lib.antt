@@ -10,3 +10,4 @@ pub mod Tables
 pub mod Arrays
 pub mod Filled
 pub mod All
+pub mod Last

@@ -28,6 +28,12 @@ abbrev pub last_of : {A : Type 0} → A → List A → A
 last_of a [] = a
 last_of a (x ∷ xs) = last_of x xs
 
+-- all elements but the last
+abbrev pub but_last : {A : Type 0} → List A → List A
+but_last [] = []
+but_last (x ∷ []) = []
+but_last (x ∷ (y ∷ ys)) = x ∷ but_last (y ∷ ys)
+
 -- ---- a list in an array
 
 -- the array ys with the list xs in its first places; the others keep what they held

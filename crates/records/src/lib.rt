@@ -1,4 +1,4 @@
-// The records of a levelling book, one for each call, named by its tag in the text book (document 01, 'The text book and the report'; document 02, W-202 to W-204), and the
+// The records of a levelling book, one for each call, named by its tag in the text book (document 01, 'The text book and the report'; document 02, W-202 to W-204 and W-210), and the
 // refusals of calls.
 #![tactic(auto)]
 
@@ -27,6 +27,8 @@ pub enum Tag {
     Ang,
     // the staffs' measured constants
     Kon,
+    // lift the last section
+    Lft,
 }
 
 // A record: its tag and its numbers. Places past the numbers that its tag has are not looked at.
@@ -112,6 +114,8 @@ pub enum Refusal {
     Collimation = 45,
     // a station before a collimation test was taken
     NotCollimated = 46,
+    // a lift where no section stands, or a run is present or waiting
+    LiftPlace = 53,
 }
 
 impl Refusal {

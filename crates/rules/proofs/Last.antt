@@ -12,6 +12,7 @@ use Rattle.std.specs.Option.{MatchOption, option_copied}
 use Rattle.std.proofs.Common.{Bor}
 use Rattle.numbers.specs.Numbers.{last_of}
 use Rattle.adjust.specs.declared.Section.{Section}
+use Rattle.rules.specs.code.Standing.{last_in}
 
 abbrev numbers : List Section → List ℤ
 numbers xs = map (λ (x : Section). x.number) xs
@@ -35,3 +36,8 @@ last_or a n [] None e h = h
 last_or a n [] (Some x) e h = search rules
 last_or a n (y ∷ ys) None e h = search (rules, e ∙ last_some y ys)
 last_or a n (y ∷ ys) (Some x) e h = h ∙ search (rules, e ∙ last_some y ys, last_number y ys)
+
+-- the last section as it is copied out of the list
+pub last_given : (xs : List Section) → slice_get xs (length xs - 1) ≡ last_in xs
+last_given [] = refl
+last_given (x ∷ xs) = last_some x xs

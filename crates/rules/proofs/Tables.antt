@@ -1,19 +1,18 @@
 -- The tables of the calls' tests: what their numbers satisfy, computed for every state of a line at once, a line for each call; and that a call that is
 -- taken fails every test.
 use mathlib.Core.Path.{◌≡◌, sym, ◌∙◌}
-use mathlib.Core.Bool.{Bool, true, false, not, ◌&&◌}
+use mathlib.Core.Bool.{Bool, true, false, not, cond, ◌&&◌}
 use mathlib.Core.List.{List, ◌++◌}
 use Prim.Native.Nat.{ℕ}
 use borrow.Author.Rules.{rules}
 use lib.Dec.{leb, eqb}
 use lib.ListN.{length}
-use Rattle.adjust.specs.Sections.{misfit}
 use Rattle.numbers.proofs.Tests.{or_r}
 use Rattle.numbers.proofs.Tables.{each_number, numbered, test_of, failed, rises}
 use Rattle.rules.specs.LineState.{LineState, line_broken}
 use Rattle.rules.specs.declared.call.Call.{Call}
-use Rattle.rules.specs.declared.call.Call.TheVariants.{OpenLine as open_line, Station as station, EndRun as end_run, DropRun as drop_run, DropSection as drop_section, CloseLine as close_line, OpenSpur as open_spur, CloseSpur as close_spur, Collimation as collimation, Constants as constants}
-use Rattle.rules.specs.Rules.{is_closing, broken, input_tests, state_tests, refusal, book_tests, book_refusal, rank}
+use Rattle.rules.specs.declared.call.Call.TheVariants.{OpenLine as open_line, Station as station, EndRun as end_run, DropRun as drop_run, DropSection as drop_section, CloseLine as close_line, OpenSpur as open_spur, CloseSpur as close_spur, Collimation as collimation, Constants as constants, LiftSection as lift_section}
+use Rattle.rules.specs.Rules.{is_closing, is_lift, all_broken, last_broken, broken, input_tests, state_tests, refusal, book_tests, book_refusal, rank}
 
 -- a call's tests
 abbrev pub tests : LineState → Call → List (ℕ × Bool)
@@ -43,6 +42,7 @@ tables v (open_spur order instrument number height) = search rules
 tables v (close_spur number) = search rules
 tables v (collimation x) = search rules
 tables v (constants first second) = search rules
+tables v lift_section = search rules
 
 module _ (v : LineState) (c : Call) where
   pub fails : refusal v c ≡ 0 → (n : ℕ) → test_of n (tests v c) ≡ false
@@ -56,4 +56,4 @@ module _ (v : LineState) (c : Call) where
   not_broken e = sym (tables v c).twenty ∙ book_fails e 20
 
   pub line_unbroken : book_refusal v c ≡ 0 → line_broken v.line (length v.sections) ≡ false
-  line_unbroken e = or_r (is_closing c && misfit v.sections) (line_broken v.line (length v.sections)) (not_broken e)
+  line_unbroken e = or_r (cond (is_closing c) (all_broken v) (is_lift c && last_broken v)) (line_broken v.line (length v.sections)) (not_broken e)

@@ -15,11 +15,12 @@ use Rattle.numbers.proofs.Tests.{holds, fails, no_true, and_l, and_r, or_l, or_r
 use Rattle.numbers.proofs.Sizes.{between_size, within_size}
 use Rattle.adjust.specs.Sections.{height_in_range}
 use Rattle.adjust.specs.Terms.{terms_of}
+use Rattle.adjust.specs.Kept.{sums_fit}
 use Rattle.rules.specs.declared.Run.{Run}
 use Rattle.rules.specs.declared.Outward.{Outward}
 use Rattle.rules.specs.declared.Line.{Line}
 use Rattle.rules.specs.code.Bounds.{SmallRun, SmallRuns}
-use Rattle.rules.specs.LineState.{is_fresh, is_open, is_closed, is_empty, is_return, run_fits, waiting_broken, misplaced, line_broken, staffs_fit, most_g, most_s, most_difference}
+use Rattle.rules.specs.LineState.{is_fresh, is_open, is_closed, is_empty, is_return, run_fits, waiting_broken, misplaced, out_of_range, line_broken, staffs_fit, most_g, most_s, most_difference}
 
 pub small_run : (u : Run) → run_fits u ≡ true → SmallRun u
 small_run u e =
@@ -52,6 +53,7 @@ pub record Unbroken (l : Line) (count : ℕ) : Type 0 where
   pub start : height_in_range l.opening.start.height ≡ true
   pub end : height_in_range l.end ≡ true
   pub staffs : staffs_fit l.opening.staffs ≡ true
+  pub sums : sums_fit l.sums ≡ true
   pub placed : misplaced l count ≡ false
 
 pub unbroken : (l : Line) (count : ℕ) → line_broken l count ≡ false → Unbroken l count
@@ -60,22 +62,25 @@ unbroken l count e =
     let n = not (leb count 64) in
     let u = not (run_fits l.present) in
     let w = waiting_broken l.waiting count in
+    let to_ranges = or_l (n || u || w || out_of_range l) (misplaced l count) e in
+    let to_waiting = or_l (n || u || w) (out_of_range l) to_ranges in
+    let to_present = or_l (n || u) w to_waiting in
+    let ranges = or_r (n || u || w) (out_of_range l) to_ranges in
     let s = not (height_in_range l.opening.start.height) in
     let t = not (height_in_range l.end) in
     let k = not (staffs_fit l.opening.staffs) in
-    let to_staffs = or_l (n || u || w || s || t || k) (misplaced l count) e in
-    let to_end = or_l (n || u || w || s || t) k to_staffs in
-    let to_start = or_l (n || u || w || s) t to_end in
-    let to_waiting = or_l (n || u || w) s to_start in
-    let to_present = or_l (n || u) w to_waiting in
+    let q = not (sums_fit l.sums) in
+    let to_staffs = or_l (s || t || k) q ranges in
+    let to_end = or_l (s || t) k to_staffs in
     record {
       few = leb→le count 64 (holds (not-false (leb count 64) (or_l n u to_present)));
       present = small_run l.present (not-false (run_fits l.present) (or_r n u to_present));
       waiting = small_waiting l.waiting count (or_r (n || u) w to_waiting);
-      start = not-false (height_in_range l.opening.start.height) (or_r (n || u || w) s to_start);
-      end = not-false (height_in_range l.end) (or_r (n || u || w || s) t to_end);
-      staffs = not-false (staffs_fit l.opening.staffs) (or_r (n || u || w || s || t) k to_staffs);
-      placed = or_r (n || u || w || s || t || k) (misplaced l count) e;
+      start = not-false (height_in_range l.opening.start.height) (or_l s t to_end);
+      end = not-false (height_in_range l.end) (or_r s t to_end);
+      staffs = not-false (staffs_fit l.opening.staffs) (or_r (s || t) k to_staffs);
+      sums = not-false (sums_fit l.sums) (or_r (s || t || k) q ranges);
+      placed = or_r (n || u || w || out_of_range l) (misplaced l count) e;
     }
 
 -- a place for each section

@@ -8,6 +8,7 @@ use Rattle.station.specs.declared.Staffs.TheVariants.{Nominal, Measured}
 use Rattle.adjust.specs.declared.Section.{Section}
 use Rattle.adjust.specs.Sections.{sections_of, holding, height_in_range}
 use Rattle.adjust.specs.Terms.{terms_of}
+use Rattle.adjust.specs.Kept.{sums_fit}
 use Rattle.rules.specs.declared.Stage.{Stage}
 use Rattle.rules.specs.declared.Stage.TheVariants.{Fresh, Open, Closed}
 use Rattle.rules.specs.declared.Run.{Run}
@@ -130,8 +131,12 @@ abbrev pub staffs_fit : Staffs → Bool
 staffs_fit Nominal = true
 staffs_fit (Measured first second) = constants_in_range (pos first) (pos second)
 
+-- of the known heights, the staffs' constants or the sums that are kept of the sections
+abbrev pub out_of_range : Line → Bool
+out_of_range l =
+    not (height_in_range l.opening.start.height) || not (height_in_range l.end) || not (staffs_fit l.opening.staffs) || not (sums_fit l.sums)
+
 -- a line beside count sections; there is no place for more than 64
 unfoldable pub line_broken : Line → ℕ → Bool
 line_broken l count =
-    not (leb count 64) || not (run_fits l.present) || waiting_broken l.waiting count || not (height_in_range l.opening.start.height) || not (height_in_range l.end)
-    || not (staffs_fit l.opening.staffs) || misplaced l count
+    not (leb count 64) || not (run_fits l.present) || waiting_broken l.waiting count || out_of_range l || misplaced l count

@@ -1,9 +1,9 @@
 -- The rules: each call's tests, each beside its refusal number and in the order in which they are made, and what a call that is taken leaves
--- (document 01, 'Runs, sections and the standing list' and the two lists of refusals; document 02, W-201 to W-204).
+-- (document 01, 'Runs, sections and the standing list' and the two lists of refusals; document 02, W-201 to W-204 and W-210).
 use Rattle.std.specs.Prelude.{Bool, true, false, not, cond, ◌&&◌, ◌||◌, List, [], ◌∷◌, ◌++◌, ℕ, ◌*◌, ◌%◌, length, leb, eqb, ℤ, pos, nat_abs, Some, None}
 use Rattle.std.specs.declared.option.Option.{Option}
 use Rattle.std.specs.Int.Signed.{le_z, lt_z}
-use Rattle.numbers.specs.Numbers.{between, eq_z}
+use Rattle.numbers.specs.Numbers.{between, eq_z, last_of, but_last}
 use Rattle.numbers.specs.Tables.{first_of}
 use Rattle.roots.specs.Limit.{is_within}
 use Rattle.station.specs.declared.Instrument.{Instrument}
@@ -14,7 +14,8 @@ use Rattle.station.specs.Station.{station_of, figures_of, limits_of, reading_tes
 use Rattle.collimation.specs.Collimation.{collimation_of, within_angle, range_tests}
 use Rattle.adjust.specs.declared.Opening.{Opening}
 use Rattle.adjust.specs.declared.Section.{Section}
-use Rattle.adjust.specs.Sections.{misfit, height_in_range}
+use Rattle.adjust.specs.declared.SectionSums.{SectionSums}
+use Rattle.adjust.specs.Sections.{no_section, section_fits, height_in_range}
 use Rattle.adjust.specs.declared.Totals.{Totals}
 use Rattle.adjust.specs.declared.terms.Class.{Class}
 use Rattle.adjust.specs.declared.terms.Class.TheVariants.{Third, Fourth, Spur}
@@ -22,10 +23,11 @@ use Rattle.adjust.specs.declared.terms.Root.{Root}
 use Rattle.adjust.specs.declared.terms.Terms.{Terms}
 use Rattle.adjust.specs.Terms.{order_of, terms_of, terms_by}
 use Rattle.adjust.specs.Line.{units_of, totals}
+use Rattle.adjust.specs.Kept.{no_sums, sums_plus, sums_minus, unsummed}
 use Rattle.rules.specs.declared.Stage.TheVariants.{Open, Closed}
 use Rattle.rules.specs.declared.call.Call.{Call}
 -- the calls, under the names by which the rules speak of them
-use Rattle.rules.specs.declared.call.Call.TheVariants.{OpenLine as open_line, Station as station, EndRun as end_run, DropRun as drop_run, DropSection as drop_section, CloseLine as close_line, OpenSpur as open_spur, CloseSpur as close_spur, Collimation as collimation, Constants as constants}
+use Rattle.rules.specs.declared.call.Call.TheVariants.{OpenLine as open_line, Station as station, EndRun as end_run, DropRun as drop_run, DropSection as drop_section, CloseLine as close_line, OpenSpur as open_spur, CloseSpur as close_spur, Collimation as collimation, Constants as constants, LiftSection as lift_section}
 use Rattle.rules.specs.declared.Run.{Run}
 use Rattle.rules.specs.declared.Outward.{Outward}
 use Rattle.rules.specs.declared.Line.{Line}
@@ -89,6 +91,7 @@ input_tests (open_spur order instrument number height) = open_tests (eq_z order 
 input_tests (close_spur number) = (4, not (number_in_range number)) ∷ []
 input_tests (collimation x) = range_tests (collimation_of x)
 input_tests (constants first second) = (42, not (constants_in_range first second)) ∷ []
+input_tests lift_section = []
 
 -- of a line between its start and the end height: its length and its closure
 abbrev pub total_tests : Terms → Bool → Totals → List (ℕ × Bool)
@@ -145,6 +148,9 @@ state_tests v (close_spur number) = close_tests v (terms_of v.line.opening.class
 state_tests v (collimation x) = (21, not (is_open v.line.stage)) ∷ (45, v.line.opening.collimated || not (within_angle (collimation_of x))) ∷ []
 -- directly after the line was opened, in the stead of 21 (document 02, W-203)
 state_tests v (constants first second) = (43, not (is_open v.line.stage) || v.line.opening.touched) ∷ []
+-- on a shut loop too (document 02, W-210)
+state_tests v lift_section =
+    (21, not (is_open v.line.stage)) ∷ (53, is_empty v.sections || not (eqb v.line.present.count 0) || is_return v.line.waiting) ∷ []
 
 abbrev pub is_closing : Call → Bool
 is_closing (open_line order instrument number height) = false
@@ -157,18 +163,35 @@ is_closing (open_spur order instrument number height) = false
 is_closing (close_spur number) = true
 is_closing (collimation x) = false
 is_closing (constants first second) = false
+is_closing lift_section = false
 
--- refusal 20, by what is read: the line, or all sections too
+abbrev pub is_lift : Call → Bool
+is_lift lift_section = true
+is_lift c = false
+
+-- what a closing reads of the sections: all of them, and the sums that are kept of them
+abbrev pub all_broken : LineState → Bool
+all_broken v = unsummed v.line.opening v.line.sums v.sections
+
+-- what a lift reads of them: the last one
+abbrev pub last_broken : LineState → Bool
+last_broken v = go v.sections
+  where
+    go : List Section → Bool
+    go [] = false
+    go (x ∷ xs) = not (section_fits (last_of x xs))
+
+-- refusal 20: of what is read of the sections, or of the line
 abbrev pub broken_in : Bool → LineState → Bool
-broken_in sections v = (sections && misfit v.sections) || line_broken v.line (length v.sections)
+broken_in sections v = sections || line_broken v.line (length v.sections)
 
--- a closing reads them
+-- by the call
 abbrev pub broken : LineState → Call → Bool
-broken v c = broken_in (is_closing c) v
+broken v c = broken_in (cond (is_closing c) (all_broken v) (is_lift c && last_broken v)) v
 
 -- the tests of asking for the figures of a closed line
 abbrev pub figures_tests : LineState → List (ℕ × Bool)
-figures_tests v = (20, broken_in true v) ∷ (21, not (is_closed v.line.stage)) ∷ []
+figures_tests v = (20, broken_in (all_broken v) v) ∷ (21, not (is_closed v.line.stage)) ∷ []
 
 -- the number that the rules give, 0 where the call is taken
 abbrev pub refusal : LineState → Call → ℕ
@@ -181,9 +204,9 @@ book_tests v c = input_tests c ++ ((20, broken v c) ∷ state_tests v c)
 unfoldable pub book_refusal : LineState → Call → ℕ
 book_refusal v c = first_of (book_tests v c)
 
--- the order in which the numbers are tested: as they stand, but 31 before 30, 43 in the stead of 21, 41, 45 and 46 directly after it, and 42 and 44 with the input's numbers
+-- the order in which the numbers are tested: as they stand, but 31 before 30, 43 in the stead of 21, 41, 45, 46 and 53 directly after it, and 42 and 44 with the input's numbers
 abbrev pub rank : ℕ → ℕ
-rank n = cond (eqb n 31) 299 (cond (eqb n 43) 210 (cond (eqb n 41 || eqb n 45 || eqb n 46) 211 (cond (eqb n 42 || eqb n 44) 56 (10 * n))))
+rank n = cond (eqb n 31) 299 (cond (eqb n 43) 210 (cond (eqb n 41 || eqb n 45 || eqb n 46 || eqb n 53) 211 (cond (eqb n 42 || eqb n 44) 56 (10 * n))))
 
 -- ---- what a call that is taken leaves
 
@@ -195,8 +218,22 @@ touched o = record o { touched = true }
 abbrev pub with_runs : Line → Option Outward → Run → Line
 with_runs l waiting present = record l { opening = touched l.opening; waiting = waiting; present = present }
 
+-- and with other sums
+abbrev pub with_sums : Line → SectionSums → Line
+with_sums l s = record l { sums = s }
+
+-- a finished section is added to the sums that are kept
 abbrev pub with_section : LineState → Section → LineState
-with_section v x = record { line = with_runs v.line None no_run; sections = v.sections ++ (x ∷ []) }
+with_section v x =
+    record { line = with_sums (with_runs v.line None no_run) (sums_plus v.line.opening v.line.sums x); sections = v.sections ++ (x ∷ []) }
+
+-- and the last one, lifted, is taken off them. Nothing is present and nothing waits, and so it stays
+abbrev pub lifted : LineState → LineState
+lifted v =
+    record {
+      line = with_sums (with_runs v.line v.line.waiting v.line.present) (sums_minus v.line.opening v.line.sums (last_of no_section v.sections));
+      sections = but_last v.sections;
+    }
 
 -- a return finishes the section, under the waiting number; an outward run waits, or is a section where sections are levelled one way
 abbrev pub run_ended : LineState → ℤ → LineState
@@ -209,7 +246,7 @@ run_ended v number =
 
 -- an open line with nothing in it
 abbrev pub begun : Opening → Line
-begun o = record { stage = Open; opening = o; end = pos 0; waiting = None; present = no_run }
+begun o = record { stage = Open; opening = o; end = pos 0; sums = no_sums; waiting = None; present = no_run }
 
 -- what a line is opened with: the staffs have their nominal constants until others are given, and the level is not tested
 abbrev pub opening_with : Class → Instrument → ℤ → ℤ → Opening
@@ -252,3 +289,4 @@ taken v (close_spur number) = record { line = closed_at v.line (pos 0); sections
 taken v (collimation x) = record { line = with_opening v.line (collimated v.line.opening); sections = v.sections }
 -- nothing is in any list: no call was taken since the line was opened
 taken v (constants first second) = record { line = begun (measured v.line.opening first second); sections = [] }
+taken v lift_section = lifted v

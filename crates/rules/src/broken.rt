@@ -1,6 +1,6 @@
 // The test of 20: whether a line's counts and sums can be, as all can that calls leave.
 ghost use Rattle.std.specs.Prelude.{◌≡◌};
-ghost use Rattle.rules.specs.LineState.{run_fits, waiting_broken, misplaced, constants_in_range, staffs_fit, line_broken};
+ghost use Rattle.rules.specs.LineState.{run_fits, waiting_broken, misplaced, constants_in_range, staffs_fit, out_of_range, line_broken};
 
 use super::{Book, Line, Outward, Run, Stage};
 use station::Staffs;
@@ -50,6 +50,16 @@ fn is_misplaced(line: &Line, count: usize) -> bool
         || (line.stage == Stage::Closed && count == 0)
 }
 
+// Whether a known height, a constant of the staffs or a sum that is kept of the sections is out of range.
+fn is_out_of_range(line: &Line) -> bool
+    ensures { result ≡ out_of_range line.now }
+{
+    !adjust::height_in_range(line.opening.start.height)
+        || !adjust::height_in_range(line.end)
+        || !staffs_fit(line.opening.staffs)
+        || !line.sums.fit()
+}
+
 // Refusal 20 of a book's line.
 #[tactic(auto, unfolding(crate::specs::LineState::line_broken))]
 pub(crate) fn line_broken(b: &Book) -> bool
@@ -60,8 +70,6 @@ pub(crate) fn line_broken(b: &Book) -> bool
     64 < count
         || !run_fits(&line.present)
         || waiting_broken(&line.waiting, count)
-        || !adjust::height_in_range(line.opening.start.height)
-        || !adjust::height_in_range(line.end)
-        || !staffs_fit(line.opening.staffs)
+        || is_out_of_range(line)
         || is_misplaced(line, count)
 }

@@ -53,6 +53,8 @@ pub enum Call {
         first: i64,
         second: i64,
     },
+    // Lift the last section off the line.
+    LiftSection,
 }
 
 impl From<Record> for Call {
@@ -90,6 +92,7 @@ impl From<Record> for Call {
                 first: a,
                 second: b,
             },
+            Tag::Lft => Call::LiftSection,
         }
     }
 }

@@ -3,13 +3,12 @@ ghost use Rattle.std.specs.Prelude.{◌≡◌, true, false, not, ◌&&◌};
 ghost use Rattle.numbers.specs.Numbers.{eq_z};
 ghost use Rattle.numbers.specs.Tables.{first_of};
 ghost use Rattle.records.specs.Refusals.{number_of};
-ghost use Rattle.adjust.specs.Sections.{misfit, height_in_range};
-ghost use Rattle.adjust.specs.Frames.{figures_fit};
+ghost use Rattle.adjust.specs.Sections.{height_in_range};
 ghost use Rattle.rules.specs.LineState.{state_of, is_shut};
 ghost use Rattle.rules.specs.code.Closed.{closing_on, close_input_tests};
 ghost use Rattle.rules.specs.code.Standing.{standing_of};
 ghost use Rattle.rules.specs.declared.call.Call.TheVariants.{CloseLine as close_line};
-ghost use Rattle.rules.specs.Rules.{close_tests, length_limit, total_tests, line_tests, state_tests, figures_tests, book_refusal};
+ghost use Rattle.rules.specs.Rules.{all_broken, close_tests, length_limit, total_tests, line_tests, state_tests, figures_tests, book_refusal};
 
 use super::refusals::check_number;
 use super::standing::Standing;
@@ -51,14 +50,20 @@ fn check_totals(terms: &Terms, shut: bool, t: &Totals) -> Result<(), Refusal>
     Ok(())
 }
 
-// The same of a line with sections, up to the known height at its end. There are totals, since the figures fit. `shut` is lent beside `standing`: to find it walks the sections.
+// The same of a line up to the known height at its end, by the sums that it keeps. There are totals, since these and the heights are in range. `shut` is lent beside `standing`: to find it walks the sections.
 fn check_line(standing: &Standing, end: i64, shut: bool) -> Result<(), Refusal>
-    requires fit { figures_fit standing.now.line.now.opening.start.height end standing.now.sections.now ≡ true }
+    requires sums { all_broken (standing_of standing.now) ≡ false }
+    requires end { height_in_range end ≡ true }
     requires shut { shut ≡ is_shut (standing_of standing.now) }
     ensures { number_of result ≡ first_of (line_tests (standing_of standing.now) end) }
 {
     let opening = standing.line.opening;
-    match adjust::totals_of(opening.staffs, opening.start.height, end, standing.sections) {
+    match adjust::totals_of(
+        opening.staffs,
+        opening.start.height,
+        end,
+        &standing.line.sums,
+    ) {
         Some(t) => check_totals(&opening.terms(), shut, &t),
         None => Err(Refusal::Broken),
     }
@@ -91,9 +96,9 @@ fn is_unlike(line: &Line, shut: bool, height: i64) -> bool
     shut && height != line.opening.start.height
 }
 
-// What a line, all of whose sections are in range, causes to closing it on a known height.
+// What a line, all of whose sections are in range and beside their sums, causes to closing it on a known height.
 fn check_close_on(standing: &Standing, number: i64, height: i64) -> Result<(), Refusal>
-    requires sections { misfit standing.now.sections.now ≡ false }
+    requires sections { all_broken (standing_of standing.now) ≡ false }
     requires height { height_in_range height ≡ true }
     ensures { number_of result ≡ first_of (state_tests (standing_of standing.now) (close_line number height)) }
 {

@@ -1,7 +1,7 @@
 // The record of a levelling line, and what the rules refuse of each call.
 #![tactic(auto)]
 
-use adjust::{Opening, Sections};
+use adjust::{Opening, SectionSums, Sections};
 
 mod broken;
 pub mod call;
@@ -41,6 +41,7 @@ pub struct Line {
     pub stage: Stage,
     pub opening: Opening,
     pub end: i64,
+    pub sums: SectionSums,
     pub waiting: Option<Outward>,
     pub present: Run,
 }

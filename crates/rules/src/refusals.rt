@@ -1,16 +1,19 @@
 // The refusals of the calls but opening and closing: what the input alone causes, a station's apart, then 20, then what the book's state causes, the first that applies.
-ghost use Rattle.std.specs.Prelude.{◌≡◌, false, not};
+ghost use Rattle.std.specs.Prelude.{◌≡◌, false, not, cond, ◌||◌, eqb, Some, None, IfOk};
+ghost use Rattle.numbers.specs.Numbers.{last_of};
 ghost use Rattle.numbers.specs.Tables.{first_of};
 ghost use Rattle.records.specs.Refusals.{number_of};
-ghost use Rattle.rules.specs.LineState.{state_of, outward_or_return, both_ways};
+ghost use Rattle.adjust.specs.Sections.{no_section, sections_of};
+ghost use Rattle.rules.specs.LineState.{state_of, is_empty, is_return, outward_or_return, both_ways};
 ghost use Rattle.rules.specs.code.Bounds.{SmallRuns};
 ghost use Rattle.rules.specs.code.Standing.{standing_of};
-ghost use Rattle.rules.specs.declared.call.Call.TheVariants.{EndRun as end_run, DropRun as drop_run, Collimation as collimation, Constants as constants};
+ghost use Rattle.rules.specs.declared.call.Call.TheVariants.{EndRun as end_run, DropRun as drop_run, Collimation as collimation, Constants as constants, LiftSection as lift_section};
 ghost use Rattle.rules.specs.Rules.{number_in_range, counted_length, discrepancy_within, out_of_turn, station_tests, book_station_tests, state_tests, input_tests, book_refusal};
 
 use super::broken::constants_in_range;
 use super::standing::Standing;
 use super::{Book, Line, Outward, Run, Stage};
+use adjust::Section;
 use adjust::terms::Root;
 use collimation::{check_angle, check_range};
 use records::Refusal;
@@ -123,6 +126,31 @@ pub fn check_drop(b: &Book) -> Result<(), Refusal>
         return Err(Refusal::Stage);
     }
     Ok(())
+}
+
+// ---- lift section
+
+// What a line causes that is not broken: the last section, if it may be lifted.
+fn check_lift_on(standing: &Standing) -> Result<Section, Refusal>
+    ensures number { number_of result ≡ first_of (state_tests (standing_of standing.now) lift_section) }
+    ensures section { IfOk result (λ x. x ≡ last_of no_section standing.now.sections.now) }
+{
+    let line = standing.line;
+    if line.stage != Stage::Open {
+        return Err(Refusal::Stage);
+    }
+    match standing.last() {
+        Some(section) if line.present.count == 0 && line.waiting.is_none() => Ok(section),
+        _ => Err(Refusal::LiftPlace),
+    }
+}
+
+#[tactic(auto, unfolding(crate::specs::Rules::book_refusal))]
+pub fn check_lift(b: &Book) -> Result<Section, Refusal>
+    ensures number { number_of result ≡ book_refusal (state_of b.now) lift_section }
+    ensures section { IfOk result (λ x. x ≡ last_of no_section (sections_of b.now.sections)) }
+{
+    check_lift_on(&Standing::of_last(b)?)
 }
 
 // ---- end run

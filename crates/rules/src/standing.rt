@@ -17,8 +17,8 @@ pub(crate) struct Standing<'a> {
 impl<'a> Standing<'a> {
     ghost use Rattle.records.specs.Refusals.{number_of};
     ghost use Rattle.rules.specs.LineState.{state_of, on_line, is_shut, began};
-    ghost use Rattle.rules.specs.Rules.{broken_in, number_allowed};
-    ghost use Rattle.rules.specs.code.Standing.{standing_of};
+    ghost use Rattle.rules.specs.Rules.{all_broken, last_broken, broken_in, number_allowed};
+    ghost use Rattle.rules.specs.code.Standing.{standing_of, last_in};
 
     // Those of a book; 20 where its line is broken.
     #[tactic(auto, using(crate::proofs::Unbroken::few, adjust::proofs::Holding::sections_count))]
@@ -35,15 +35,41 @@ impl<'a> Standing<'a> {
         })
     }
 
-    // For a call that reads the sections: 20 also where one of them does not fit.
+    // For a call that reads all sections: 20 also where one of them does not fit, or where the sums that are kept are not theirs.
     pub(crate) fn of_read(b: &'a Book) -> Result<Self, Refusal>
-        ensures number { number_of result ≡ cond (broken_in true (state_of b.now)) 20 0 }
+        ensures number { number_of result ≡ cond (broken_in (all_broken (state_of b.now)) (state_of b.now)) 20 0 }
         ensures state { IfOk result (λ s. standing_of s ≡ state_of b.now) }
     {
-        if b.sections.misfit() {
+        if b.sections.unsummed(&b.line.opening, &b.line.sums) {
             return Err(Refusal::Broken);
         }
         Standing::of(b)
+    }
+
+    // For a call that reads the last section: 20 also where that one does not fit.
+    pub(crate) fn of_last(b: &'a Book) -> Result<Self, Refusal>
+        ensures number { number_of result ≡ cond (broken_in (last_broken (state_of b.now)) (state_of b.now)) 20 0 }
+        ensures state { IfOk result (λ s. standing_of s ≡ state_of b.now) }
+    {
+        let standing = Standing::of(b)?;
+        if standing.is_last_broken() {
+            return Err(Refusal::Broken);
+        }
+        Ok(standing)
+    }
+
+    // The last section, if there is one.
+    pub(crate) fn last(&self) -> Option<Section>
+        ensures { result ≡ last_in self.now.sections.now }
+    {
+        self.sections.last().copied()
+    }
+
+    // Whether there is one that does not fit.
+    fn is_last_broken(&self) -> bool
+        ensures { result ≡ last_broken (standing_of self.now) }
+    {
+        self.last().is_some_and(|section| !section.fits())
     }
 
     // Whether a finished section ends on the benchmark.

@@ -8,8 +8,8 @@ use Rattle.records.specs.declared.Record.{Record}
 use Rattle.records.specs.declared.Refusal.{Refusal}
 use Rattle.records.specs.declared.Refusal.TheVariants.{NotARecord}
 use Rattle.records.specs.declared.Tag.{Tag}
-use Rattle.records.specs.declared.Tag.TheVariants.{Lin, Sta, Run, Drr, Drs, End, Spr, Fin, Ang, Kon}
-use Rattle.rules.specs.declared.call.Call.TheVariants.{OpenLine as open_line, Station as station, CloseLine as close_line, OpenSpur as open_spur, CloseSpur as close_spur, Collimation as collimation, Constants as constants}
+use Rattle.records.specs.declared.Tag.TheVariants.{Lin, Sta, Run, Drr, Drs, End, Spr, Fin, Ang, Kon, Lft}
+use Rattle.rules.specs.declared.call.Call.TheVariants.{OpenLine as open_line, Station as station, CloseLine as close_line, OpenSpur as open_spur, CloseSpur as close_spur, Collimation as collimation, Constants as constants, LiftSection as lift_section}
 use Rattle.ledger.specs.Plain.{Reading, fresh_reading}
 use Rattle.ledger.specs.Entries.{Entry, asks, refused, entry_of, entry_refusals, after_entries}
 
@@ -26,7 +26,8 @@ tag_of k =
     (cond (eq_z k (pos 8)) (Some Fin)
     (cond (eq_z k (pos 9)) (Some Ang)
     (cond (eq_z k (pos 10)) (Some Kon)
-    None)))))))))
+    (cond (eq_z k (pos 11)) (Some Lft)
+    None))))))))))
 
 -- a record of this tag with the numbers v; without a tag there is none
 abbrev pub record_with : Option Tag → List ℤ → Result Record Refusal
@@ -71,14 +72,15 @@ example =
     ++ (pos 8 ∷ pos 2 ∷ pos 0 ∷ pos 0 ∷ pos 0 ∷ nothing_more)
     ++ (pos 9 ∷ pos 5937 ∷ pos 5951 ∷ pos 6043 ∷ pos 6067 ∷ pos 6800 ∷ pos 40300 ∷ pos 0 ∷ pos 0 ∷ pos 0 ∷ pos 0 ∷ [])
     ++ (pos 10 ∷ pos 46850 ∷ pos 47880 ∷ pos 0 ∷ pos 0 ∷ nothing_more)
-    ++ (pos 11 ∷ pos 2 ∷ pos 0 ∷ pos 0 ∷ pos 0 ∷ nothing_more)
+    ++ (pos 11 ∷ pos 0 ∷ pos 0 ∷ pos 0 ∷ pos 0 ∷ nothing_more)
+    ++ (pos 12 ∷ pos 2 ∷ pos 0 ∷ pos 0 ∷ pos 0 ∷ nothing_more)
     ++ (pos 4 ∷ [])
 
 pub example_entries : entries_of example
     ≡ asks (open_line (pos 4) (pos 3) (pos 1) (pos 10000))
     ∷ asks (station (pos 4687) (pos 4787) ((pos 1571 ∷ pos 1197 ∷ pos 1384 ∷ pos 6171 ∷ []) ∷ (pos 739 ∷ pos 363 ∷ pos 551 ∷ pos 5239 ∷ []) ∷ []))
     ∷ asks (close_line (pos 2) (negsuc 0)) ∷ asks (open_spur (pos 4) (pos 3) (pos 1) (pos 10000)) ∷ asks (close_spur (pos 2))
-    ∷ asks (collimation (pos 5937 ∷ pos 5951 ∷ pos 6043 ∷ pos 6067 ∷ pos 6800 ∷ pos 40300 ∷ [])) ∷ asks (constants (pos 46850) (pos 47880)) ∷ refused 1 ∷ refused 1 ∷ []
+    ∷ asks (collimation (pos 5937 ∷ pos 5951 ∷ pos 6043 ∷ pos 6067 ∷ pos 6800 ∷ pos 40300 ∷ [])) ∷ asks (constants (pos 46850) (pos 47880)) ∷ asks lift_section ∷ refused 1 ∷ refused 1 ∷ []
 unfolding first_entries first_record tag_of
 example_entries = refl
 

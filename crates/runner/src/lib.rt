@@ -32,6 +32,7 @@ fn tag_of(number: i64) -> Option<Tag>
         8 => Some(Tag::Fin),
         9 => Some(Tag::Ang),
         10 => Some(Tag::Kon),
+        11 => Some(Tag::Lft),
         _ => None,
     }
 }

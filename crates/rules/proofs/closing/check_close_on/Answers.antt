@@ -1,22 +1,18 @@
 -- `check_close_on` makes the tests up to 34, and those of the line only where its figures fit.
-use Rattle.std.proofs.Common.{◌≡◌, refl, sym, ap, ◌∙◌, Bool, true, false, not, cond, ◌&&◌, ◌||◌, List, ℕ, eqb, length, ℤ, w64, rules}
+use Rattle.std.proofs.Common.{◌≡◌, refl, sym, ap, ◌∙◌, Bool, not, cond, ◌&&◌, List, ℕ, eqb, ℤ, w64, rules}
 use mir.Val.{SFits}
 use Rattle.numbers.specs.Numbers.{eq_z}
 use Rattle.numbers.specs.Tables.{first_of}
 use Rattle.numbers.proofs.Machine.{stored, stored_id}
-use Rattle.numbers.proofs.Tables.{failed, first_append, nonzero_cond}
-use Rattle.numbers.proofs.Tests.{or_r}
+use Rattle.numbers.proofs.Tables.{first_append, nonzero_cond}
 use Rattle.records.specs.Refusals.{refusal_number, number_of}
 use Rattle.records.proofs.Numbered.{not_zero}
 use Rattle.adjust.specs.declared.terms.Terms.{Terms}
-use Rattle.adjust.specs.Sections.{misfit, height_in_range}
 use Rattle.adjust.specs.Terms.{terms_of}
-use Rattle.adjust.specs.Frames.{figures_fit}
-use Rattle.rules.specs.LineState.{LineState, is_return, is_empty, is_shut, line_broken}
+use Rattle.rules.specs.LineState.{LineState, is_shut}
 use Rattle.rules.specs.declared.call.Call.TheVariants.{CloseLine as close_line}
 use Rattle.rules.specs.Rules.{close_tests, line_tests, state_tests}
 use Rattle.rules.specs.code.Standing.{standing_of}
-use Rattle.rules.proofs.Unbroken.{unbroken, some_long}
 use Rattle.rules.proofs.closing.check_close_on.Goals as goal
 
 module _ (v : LineState) (number end : ℤ) where
@@ -41,14 +37,6 @@ module _ (v : LineState) (number end : ℤ) where
       let later = line_tests v end in
       first_append early later refl ∙ (λ i. cond (eqb (sym e i) 0) (first_of later) (sym e i))
 
-  -- where the early tests fail, the figures fit
-  fit : line_broken v.line (length v.sections) ≡ false → misfit v.sections ≡ false → height_in_range end ≡ true → 0 ≡ first_of early
-      → figures_fit v.line.opening.start.height end v.sections ≡ true
-  unfolding figures_fit
-  fit e m h none =
-      let some = or_r (not (eqb v.line.present.count 0) || is_return v.line.waiting) (is_empty v.sections) (failed early refl (sym none) 33) in
-      λ i. some_long v.sections some i && not (m i) && (unbroken v.line (length v.sections) e).start i && h i
-
 pub returns-in_err-check_place : goal.returns-in_err-check_place
 returns-in_err-check_place c =
     let v = standing_of c.args.standing.now in
@@ -56,13 +44,6 @@ returns-in_err-check_place c =
     let told : number_of c.from_residual.result ≡ refusal_number refused = search rules in
     let e = tested v c.args.number c.args.height c.in_err-check_place.ensures c.terms-other.ensures (unlike_is v c.args.number c.args.height c.is_unlike-unlike.ensures c.is_shut-shut.ensures c.ranges.height) c.ranges.number in
     told ∙ sym (by_early v c.args.number c.args.height e ∙ nonzero_cond (refusal_number refused) (first_of (line_tests v c.args.height)) (refusal_number refused) (not_zero refused))
-
-pub check_line-requires-clause-fit : goal.check_line-requires-clause-fit
-check_line-requires-clause-fit c =
-    let v = standing_of c.args.standing.now in
-    let e = tested v c.args.number c.args.height c.in_ok-check_place.ensures c.terms-other.ensures (unlike_is v c.args.number c.args.height c.is_unlike-unlike.ensures c.is_shut-shut.ensures c.ranges.height) c.ranges.number in
-    ap (λ (z : ℤ). figures_fit v.line.opening.start.height z v.sections) (stored_id c.ranges.height)
-    ∙ fit v c.args.number c.args.height c.args.standing.now.unbroken c.requires.sections c.requires.height e
 
 pub returns : goal.returns
 returns c =
