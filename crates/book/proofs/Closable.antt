@@ -18,10 +18,11 @@ use Rattle.adjust.specs.declared.Section.{Section}
 use Rattle.adjust.specs.Sections.{sections_of, section_fits, any_outside, misfit, height_in_range}
 use Rattle.adjust.specs.Frames.{figures_fit, adjusted_of, line_figures}
 use Rattle.adjust.proofs.Holding.{sections_count}
+use Rattle.adjust.proofs.Kept.{summed_fit}
 use Rattle.rules.specs.declared.Book.{Book}
 use Rattle.rules.specs.LineState.{LineState, state_of, is_closed, is_empty, is_return, line_broken}
 use Rattle.rules.specs.declared.call.Call.TheVariants.{CloseLine as close_line, CloseSpur as close_spur}
-use Rattle.rules.specs.Rules.{broken_in, figures_tests, book_refusal, taken}
+use Rattle.rules.specs.Rules.{all_broken, broken_in, figures_tests, book_refusal, taken}
 use Rattle.rules.specs.code.Closed.{closing_on}
 use Rattle.rules.proofs.Tables.{book_fails}
 use Rattle.rules.proofs.Unbroken.{unbroken, some_long, closed_some}
@@ -35,11 +36,12 @@ module _ (b : Book) where
   ss = sections_of b.sections
 
   -- where 20 does not hold of the line and its sections, and there is a section
-  in_range : (end : ℤ) → broken_in true (state_of b) ≡ false → is_empty ss ≡ false → height_in_range end ≡ true → figures_fit b.line.opening.start.height end ss ≡ true
+  in_range : (end : ℤ) → broken_in (all_broken (state_of b)) (state_of b) ≡ false → is_empty ss ≡ false → height_in_range end ≡ true → figures_fit b.line.opening.start.height end ss ≡ true
   unfolding figures_fit
   in_range end e some known =
-      let fit = or_l (misfit ss) (line_broken b.line (length ss)) e in
-      let line = unbroken b.line (length ss) (or_r (misfit ss) (line_broken b.line (length ss)) e) in
+      let all = all_broken (state_of b) in
+      let fit = summed_fit b.line.opening b.line.sums ss (or_l all (line_broken b.line (length ss)) e) in
+      let line = unbroken b.line (length ss) (or_r all (line_broken b.line (length ss)) e) in
       λ i. some_long ss some i && not (fit i) && line.start i && known i
 
   -- of a closing that is taken; of a spur's, the end height stays a placeholder
@@ -69,7 +71,7 @@ module _ (b : Book) where
   pub closed_fits : 0 ≡ figures_refusal b → Fit (state_of b)
   closed_fits e =
       let test = failed (figures_tests (state_of b)) refl (sym e) in
-      let line = unbroken b.line (length ss) (or_r (misfit ss) (line_broken b.line (length ss)) (test 20)) in
+      let line = unbroken b.line (length ss) (or_r (all_broken (state_of b)) (line_broken b.line (length ss)) (test 20)) in
       in_range b.line.end (test 20) (closed_some b.line ss line.placed (not-false (is_closed b.line.stage) (test 21))) line.end
 
   -- and then there is a place for each section

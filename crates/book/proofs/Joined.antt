@@ -5,14 +5,15 @@ use mathlib.Core.List.{List, [], ◌∷◌, ◌++◌}
 use Prim.Native.Nat.{◌≤◌, ◌<◌}
 use native.Mathlib.Omega.{arith}
 use borrow.Author.Rules.{rules}
-use borrow.Author.Tests.{lt-ltb}
-use lib.Dec.{leb, nleb→lt}
+use borrow.Author.Tests.{lt-ltb, le-leb}
+use lib.Dec.{leb, eqb, ltb→lt, nleb→lt}
 use lib.ListN.{length}
 use lib.IntN.{ℤ}
 use Rattle.std.specs.Prelude.{Ok, Err, Some, None, IfOk}
 use Rattle.std.specs.declared.option.Option.{Option}
 use Rattle.std.specs.declared.result.Result.{Result}
-use Rattle.numbers.proofs.Tests.{fails}
+use Rattle.numbers.specs.Numbers.{but_last}
+use Rattle.numbers.proofs.Tests.{holds, or_l, fails}
 use Rattle.numbers.proofs.Tables.{each_number, first_each, zero_cond, nonzero_cond}
 use Rattle.records.specs.declared.Refusal.{Refusal}
 use Rattle.records.specs.Refusals.{number_of}
@@ -22,19 +23,20 @@ use Rattle.adjust.specs.declared.LineFigures.{LineFigures}
 use Rattle.adjust.specs.Sections.{sections_of, holding}
 use Rattle.adjust.specs.Frames.{adjusted_of}
 use Rattle.adjust.specs.Terms.{terms_of}
-use Rattle.adjust.proofs.Holding.{Places, sections_count, sections_holding, stored, holding_own, holding_more}
+use Rattle.adjust.proofs.Holding.{Places, sections_count, sections_holding, stored, holding_own, holding_more, holding_less}
+use Rattle.adjust.proofs.Holding as Holding
 use Rattle.rules.specs.declared.Outward.{Outward}
 use Rattle.rules.specs.declared.Line.{Line}
 use Rattle.rules.specs.declared.Book.{Book}
-use Rattle.rules.specs.LineState.{LineState, state_of, book_with, is_fresh, is_open, is_return, outward_or_return, no_run, one_way, both_ways}
+use Rattle.rules.specs.LineState.{LineState, state_of, book_with, is_fresh, is_open, is_empty, is_return, outward_or_return, no_run, one_way, both_ways}
 use Rattle.rules.specs.declared.call.Call.{Call}
-use Rattle.rules.specs.declared.call.Call.TheVariants.{OpenLine as open_line, Station as station, EndRun as end_run, DropRun as drop_run, DropSection as drop_section, CloseLine as close_line, OpenSpur as open_spur, CloseSpur as close_spur, Collimation as collimation, Constants as constants}
-use Rattle.rules.specs.Rules.{with_runs, with_section, book_tests, book_refusal, taken}
+use Rattle.rules.specs.declared.call.Call.TheVariants.{OpenLine as open_line, Station as station, EndRun as end_run, DropRun as drop_run, DropSection as drop_section, CloseLine as close_line, OpenSpur as open_spur, CloseSpur as close_spur, Collimation as collimation, Constants as constants, LiftSection as lift_section}
+use Rattle.rules.specs.Rules.{with_runs, with_section, lifted, book_tests, book_refusal, taken}
 use Rattle.rules.proofs.Tables.{book_fails, line_unbroken}
-use Rattle.rules.proofs.Unbroken.{SmallWaiting, fresh_none, untouched_none}
+use Rattle.rules.proofs.Unbroken.{SmallWaiting, some_long, fresh_none, untouched_none}
 use Rattle.changes.specs.declared.Change.{Change}
-use Rattle.changes.specs.Changes as Changes
-use Rattle.changes.specs.Changes.{first, effect_of, Decides, changed}
+use Rattle.changes.specs.declared.Shift.TheVariants.{Finished, Lifted}
+use Rattle.changes.specs.Changes.{finishing, effect_of, Decides, shifted, changed}
 use Rattle.changes.proofs.Joined.{book_unbroken}
 use Rattle.book.specs.declared.Outcome.{Outcome}
 use Rattle.book.specs.Calls.{book_after, Answers, closing_of, closed_by, Closes}
@@ -51,8 +53,14 @@ module _ (b : Book) (w : Places b.sections) where
   line_alone v h e = λ i. record { line = v.line; sections = (sym (holding_own b.sections w h) ∙ ap (holding b.sections) e) i }
 
   -- one section more
-  one_more : (x : Section) → b.sections.count < 64 → Changes.with_section b.sections (Some x) ≡ holding b.sections (ss ++ (x ∷ []))
+  one_more : (x : Section) → b.sections.count < 64 → shifted b.sections (Finished x) ≡ holding b.sections (ss ++ (x ∷ []))
   one_more x h = ap (λ (t : Bool). cond t (stored b.sections x) b.sections) (lt-ltb b.sections.count 64 h) ∙ sym (holding_more b.sections x w h)
+
+  -- and one fewer
+  one_fewer : b.sections.count ≤ 64 → is_empty ss ≡ false → shifted b.sections Lifted ≡ holding b.sections (but_last ss)
+  one_fewer h e =
+      let some : 0 < b.sections.count = omega (arith, sections_count b.sections, ltb→lt 0 (length ss) (holds (some_long ss e))) in
+      (λ i. cond (lt-ltb 0 b.sections.count some i && le-leb b.sections.count 64 h i) (Holding.lifted b.sections) b.sections) ∙ sym (holding_less b.sections w some h)
 
   -- the end of a run, beside the sections xs, by what waits and by whether sections are levelled out and back
   abbrev ended : ℤ → List Section → Option Outward → Bool → LineState
@@ -65,10 +73,10 @@ module _ (b : Book) (w : Places b.sections) where
       (λ outward run. with_section v (both_ways outward run l.present))
 
   ended_made : (number : ℤ) (x : Option Outward) (t : Bool) → b.sections.count < 64
-      → changed b (record { line = (ended number [] x t).line; section = first (ended number [] x t).sections }) ≡ book_with b (ended number ss x t)
+      → changed b (record { line = (ended number [] x t).line; shift = finishing (ended number [] x t).sections }) ≡ book_with b (ended number ss x t)
   ended_made number None true h = line_alone (ended number ss None true) (omega arith) refl
-  ended_made number None false h = λ i. record { line = with_runs b.line None no_run; sections = one_more (one_way number b.line.present) h i }
-  ended_made number (Some x) t h = λ i. record { line = with_runs b.line None no_run; sections = one_more (both_ways x.number x.run b.line.present) h i }
+  ended_made number None false h = λ i. record { line = (ended number ss None false).line; sections = one_more (one_way number b.line.present) h i }
+  ended_made number (Some x) t h = λ i. record { line = (ended number ss (Some x) t).line; sections = one_more (both_ways x.number x.run b.line.present) h i }
 
   -- there is room for the section: an outward run is tested (31), and a run waits only where there is
   room : (x : Option Outward) → SmallWaiting x b.sections.count → not (is_return x) && leb 64 (length ss) ≡ false → b.sections.count < 64
@@ -87,7 +95,7 @@ module _ (b : Book) (w : Places b.sections) where
   none_yet : (c : Call) → book_refusal (state_of b) c ≡ 0 → not (is_open b.line.stage) || b.line.opening.touched ≡ false → ss ≡ []
   none_yet c e = untouched_none b.line ss (line_unbroken (state_of b) c e)
 
-  effect : (c : Call) → book_refusal (state_of b) c ≡ 0 → changed b (effect_of b.line c) ≡ book_with b (taken (state_of b) c)
+  effect : (c : Call) → book_refusal (state_of b) c ≡ 0 → changed b (effect_of (state_of b) c) ≡ book_with b (taken (state_of b) c)
   unfolding effect_of
   effect (open_line order instrument number height) e =
       let c = open_line order instrument number height in alone c e (none c e (book_fails (state_of b) c e 21))
@@ -102,6 +110,9 @@ module _ (b : Book) (w : Places b.sections) where
   effect (collimation x) e = alone (collimation x) e refl
   effect (constants first second) e =
       let c = constants first second in alone c e (none_yet c e (book_fails (state_of b) c e 43))
+  effect lift_section e =
+      let some = or_l (is_empty ss) (not (eqb b.line.present.count 0)) (or_l (is_empty ss || not (eqb b.line.present.count 0)) (is_return b.line.waiting) (book_fails (state_of b) lift_section e 53)) in
+      λ i. record { line = (lifted (state_of b)).line; sections = one_fewer (book_unbroken b lift_section e).few some i }
   effect (close_spur number) e = alone (close_spur number) e refl
   effect (close_line number end) e = alone (close_line number end) e refl
 
@@ -156,6 +167,7 @@ answers v (open_spur order instrument number height) = search rules
 answers v (close_spur number) = search rules
 answers v (collimation x) = search rules
 answers v (constants first second) = search rules
+answers v lift_section = search rules
 
 given : {A : Type 0} (v : LineState) (c : Call) (a : A) → number_of (answered (book_refusal v c) a) ≡ book_refusal v c
 unfolding book_refusal

@@ -9,6 +9,7 @@ use Rattle.records.specs.Refusals.{number_of}
 use Rattle.adjust.specs.declared.LineFigures.{LineFigures}
 use Rattle.adjust.specs.Sections.{no_section}
 use Rattle.adjust.specs.Line.{Closing, closing}
+use Rattle.adjust.specs.Kept.{no_sums}
 use Rattle.adjust.specs.Frames.{adjusted_of}
 use Rattle.rules.specs.declared.Stage.TheVariants.{Fresh}
 use Rattle.rules.specs.declared.Book.{Book}
@@ -25,6 +26,7 @@ fresh_book =
             stage = Fresh;
             opening = unopened;
             end = pos 0;
+            sums = no_sums;
             waiting = None;
             present = no_run;
           };

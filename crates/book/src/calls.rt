@@ -3,7 +3,7 @@ ghost use Rattle.std.specs.Prelude.{◌≡◌, IfOk};
 ghost use Rattle.records.specs.Refusals.{number_of};
 ghost use Rattle.adjust.specs.Frames.{adjusted_of};
 ghost use Rattle.rules.specs.LineState.{state_of};
-ghost use Rattle.rules.specs.declared.call.Call.TheVariants.{OpenLine as open_line, Station as station, EndRun as end_run, DropRun as drop_run, DropSection as drop_section, CloseLine as close_line, OpenSpur as open_spur, CloseSpur as close_spur, Collimation as collimation, Constants as constants};
+ghost use Rattle.rules.specs.declared.call.Call.TheVariants.{OpenLine as open_line, Station as station, EndRun as end_run, DropRun as drop_run, DropSection as drop_section, CloseLine as close_line, OpenSpur as open_spur, CloseSpur as close_spur, Collimation as collimation, Constants as constants, LiftSection as lift_section};
 ghost use Rattle.rules.specs.Rules.{book_refusal};
 ghost use Rattle.book.specs.Calls.{book_after, Answers, closing_of, Closes, Tells};
 ghost use Rattle.book.specs.code.Made.{Makes, Fit};
@@ -117,6 +117,13 @@ pub fn drop_section(b: Book) -> Outcome<()>
     ensures { Answers b drop_section result }
 {
     take(b, Call::DropSection)
+}
+
+// Lift the last section off the line, which opens a loop again that it shut.
+pub fn lift_section(b: Book) -> Outcome<()>
+    ensures { Answers b lift_section result }
+{
+    take(b, Call::LiftSection)
 }
 
 // The figures of a closed book whose figures fit.

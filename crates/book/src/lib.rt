@@ -5,7 +5,7 @@ ghost use Rattle.std.specs.Prelude.{◌≡◌};
 ghost use Rattle.book.specs.Calls.{fresh_book};
 
 use adjust::terms::Class;
-use adjust::{Section, Sections};
+use adjust::{Section, SectionSums, Sections};
 use records::Refusal;
 use rules::opening::opening_with;
 use rules::{Book, Line, Run, Stage};
@@ -29,6 +29,7 @@ pub fn fresh() -> Book
         stage: Stage::Fresh,
         opening,
         end: 0,
+        sums: SectionSums::default(),
         waiting: None,
         present: Run::default(),
     };

@@ -1,7 +1,7 @@
 -- From what the parts of a call answer to what it makes of a book: an opening by what its numbers name, a station by what is read, and a call that is taken finds the line unbroken.
 use mathlib.Core.Path.{◌≡◌, refl, sym, ap, subst, ◌∙◌}
-use mathlib.Core.Bool.{Bool, true, false, cond, ◌||◌}
-use mathlib.Core.List.{List, ◌∷◌}
+use mathlib.Core.Bool.{Bool, true, false, not, cond, ◌||◌}
+use mathlib.Core.List.{List, [], ◌∷◌}
 use Prim.Native.Nat.{ℕ}
 use native.Mathlib.Omega.{arith}
 use lib.Dec.{eqb}
@@ -10,9 +10,10 @@ use lib.IntN.{ℤ, pos}
 use mir.Syntax.{w64}
 use mir.Val.{SFits}
 use Rattle.std.specs.Prelude.{Ok, Err, Some, None, MatchOption, IfOk, ⊤}
+use Rattle.std.specs.Option.{unwrap_or}
 use Rattle.std.specs.declared.option.Option.{Option}
 use Rattle.std.specs.declared.result.Result.{Result}
-use Rattle.numbers.specs.Numbers.{eq_z}
+use Rattle.numbers.specs.Numbers.{eq_z, last_of}
 use Rattle.numbers.specs.Tables.{first_of}
 use Rattle.numbers.proofs.Machine.{stored, stored_id, stored_both}
 use Rattle.numbers.proofs.Tables.{first_append, zero_cond, nonzero_cond}
@@ -24,20 +25,25 @@ use Rattle.station.specs.Station.{station_of, figures_of, reading_refusal, Reads
 use Rattle.station.proofs.Answered.{of_station, of_refused}
 use Rattle.adjust.specs.declared.terms.Class.{Class}
 use Rattle.adjust.specs.declared.terms.Class.TheVariants.{Spur}
-use Rattle.adjust.specs.Sections.{sections_of}
+use Rattle.adjust.specs.declared.Section.{Section}
+use Rattle.adjust.specs.Sections.{no_section, sections_of, section_fits}
+use Rattle.adjust.specs.Kept.{sums_fit}
 use Rattle.adjust.proofs.Holding.{sections_count}
 use Rattle.rules.specs.declared.Book.{Book}
-use Rattle.rules.specs.LineState.{state_of, constants_in_range}
+use Rattle.rules.specs.LineState.{LineState, state_of, is_empty, is_return, constants_in_range, line_broken}
 use Rattle.rules.specs.declared.call.Call.{Call}
-use Rattle.rules.specs.declared.call.Call.TheVariants.{OpenLine as open_line, OpenSpur as open_spur, Station as station, EndRun as end_run, Constants as constants}
-use Rattle.rules.specs.Rules.{class_of, instrument_of, broken, input_tests, state_tests, book_station_tests, book_refusal}
-use Rattle.rules.specs.code.Bounds.{SmallRuns}
+use Rattle.rules.specs.declared.call.Call.TheVariants.{OpenLine as open_line, OpenSpur as open_spur, Station as station, EndRun as end_run, Constants as constants, LiftSection as lift_section}
+use Rattle.rules.specs.Rules.{class_of, instrument_of, last_broken, broken, input_tests, state_tests, book_station_tests, book_refusal, closed_at}
+use Rattle.rules.specs.code.Bounds.{SmallRuns, finish_fits}
+use Rattle.rules.specs.code.Closed.{closing_on}
 use Rattle.rules.specs.code.Opened.{class_named, spur_named, instrument_named, named_refusal}
-use Rattle.numbers.proofs.Tests.{not-false}
+use Rattle.numbers.proofs.Tests.{no_true, or_l, not-false}
 use Rattle.rules.proofs.Tables.{tables, book_fails, line_unbroken}
 use Rattle.rules.proofs.Opened.{line_class, instrument, line_refusal, spur_refusal}
 use Rattle.rules.proofs.Unbroken.{Unbroken, unbroken, small_runs}
+use Rattle.rules.proofs.Finished.{finished_fits}
 use Rattle.changes.specs.declared.Change.{Change}
+use Rattle.changes.specs.declared.Shift.TheVariants.{Same}
 use Rattle.changes.specs.Changes.{effect_of, opened, Decides}
 
 -- ---- a call that is taken finds the line unbroken
@@ -49,6 +55,27 @@ book_unbroken b c e =
 -- and its runs small
 pub small_ends : (b : Book) (number : ℤ) → 0 ≡ book_refusal (state_of b) (end_run number) → SmallRuns b.line.waiting b.line.present
 small_ends b number e = small_runs b.line b.sections.count (book_unbroken b (end_run number) (sym e))
+
+-- the sums that it keeps are in range
+pub sums_small : (b : Book) (c : Call) → 0 ≡ book_refusal (state_of b) c → sums_fit b.line.sums ≡ true
+sums_small b c e = (book_unbroken b c (sym e)).sums
+
+-- and so is the section that is finished
+pub ends_fit : (b : Book) (number : ℤ) → 0 ≡ book_refusal (state_of b) (end_run number) → finish_fits b.line number ≡ true
+ends_fit b number e = finished_fits (state_of b) number (sym e)
+
+-- and the section that is lifted, by the tests 20 and 53
+pub lift_fits : (b : Book) {x : Section} → 0 ≡ book_refusal (state_of b) lift_section → x ≡ last_of no_section (sections_of b.sections) → section_fits x ≡ true
+lift_fits b {x} e is =
+    let test = book_fails (state_of b) lift_section (sym e) in
+    let ss : List Section = sections_of b.sections in
+    let some = or_l (is_empty ss) (not (eqb b.line.present.count 0)) (or_l (is_empty ss || not (eqb b.line.present.count 0)) (is_return b.line.waiting) (test 53)) in
+    let broken = or_l (last_broken (state_of b)) (line_broken b.line (length ss)) (test 20) in
+    ap section_fits is ∙ last_fits ss some broken
+  where
+    last_fits : (ss : List Section) → is_empty ss ≡ false → last_broken (record { line = b.line; sections = ss }) ≡ false → section_fits (last_of no_section ss) ≡ true
+    last_fits [] some h = no_true (sym some)
+    last_fits (y ∷ ys) some h = not-false (section_fits (last_of y ys)) h
 
 -- constants that are taken are in their ranges
 pub constants_fit : (b : Book) (first second : ℤ) → 0 ≡ book_refusal (state_of b) (constants first second) → constants_in_range first second ≡ true
@@ -78,7 +105,7 @@ module _ (b : Book) (number height : ℤ) where
   -- a call c that opens, by what its two numbers name: a class where s, an instrument where t
   opens : (c : Call) (s t : Bool) (class : Class) (z : Instrument) {y : Option Class} {k : Option Instrument} (r : Result Change Refusal)
       → named_refusal (state_of b) y k number height ≡ book_refusal (state_of b) c
-      → effect_of b.line c ≡ opened class z number height
+      → effect_of (state_of b) c ≡ opened class z number height
       → y ≡ cond s (Some class) None → k ≡ cond t (Some z) None → Opens y k r → Decides b c r
   opens c s t class z r n e p q h =
       record {
@@ -86,7 +113,7 @@ module _ (b : Book) (number height : ℤ) where
         change = changes r (named s t class z r (subst (λ (x : Option Class × Option Instrument). Opens x.0 x.1 r) (λ i. (p i, q i)) h));
       }
     where
-      changes : (r : Result Change Refusal) → IfOk r (λ (x : Change). x ≡ opened class z number height) → IfOk r (λ (x : Change). x ≡ effect_of b.line c)
+      changes : (r : Result Change Refusal) → IfOk r (λ (x : Change). x ≡ opened class z number height) → IfOk r (λ (x : Change). x ≡ effect_of (state_of b) c)
       changes (Ok x) f = f ∙ sym e
       changes (Err x) f = tt
 
@@ -111,6 +138,13 @@ opens_as b call named law {o = order} {k = kind} {n = number} {h = height} {r = 
     subst (λ (x : Call). Decides b x r) ((λ i. call (stored_id o i) (stored_id k i) (stored_id n i) (stored_id h i)) ∙ sym is)
     (law (stored number) (stored height) (stored order) (stored kind) r
     (subst (λ (x : Option Class × Option Instrument). Opens b (stored number) (stored height) x.0 x.1 r) (λ i. (p i, q i)) d))
+
+-- ---- a closing, with a known end or without: of a spur 0 stands for it
+
+pub closing_effect : (v : LineState) (number : ℤ) (end : Option ℤ) → effect_of v (closing_on number end) ≡ record { line = closed_at v.line (unwrap_or end (pos 0)); shift = Same }
+unfolding effect_of
+closing_effect v number None = refl
+closing_effect v number (Some end) = refl
 
 -- ---- the end of a run, of a number that fits, as the machine reads it back: a law of its own, which the tactics find where it is needed
 

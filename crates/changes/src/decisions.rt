@@ -1,35 +1,37 @@
-// What each call makes of a book: its refusal, or its effect on the line and the section that it finishes.
-ghost use Rattle.std.specs.Prelude.{◌≡◌, None, MatchOption, IfOk, ⊤};
+// What each call makes of a book: its refusal, or its effect on the line and the list of its sections.
+ghost use Rattle.std.specs.Prelude.{◌≡◌, MatchOption, IfOk, ⊤};
 ghost use Rattle.records.specs.Refusals.{number_of};
 ghost use Rattle.rules.specs.LineState.{state_of};
-ghost use Rattle.rules.specs.declared.call.Call.TheVariants.{Station as station, EndRun as end_run, DropRun as drop_run, Collimation as collimation, Constants as constants};
+ghost use Rattle.rules.specs.declared.call.Call.TheVariants.{Station as station, EndRun as end_run, DropRun as drop_run, Collimation as collimation, Constants as constants, LiftSection as lift_section};
 ghost use Rattle.rules.specs.Rules.{book_refusal};
 ghost use Rattle.rules.specs.code.Opened.{named_refusal};
 ghost use Rattle.rules.specs.code.Closed.{closing_on};
+ghost use Rattle.changes.specs.declared.Shift.TheVariants.{Same};
 ghost use Rattle.changes.specs.Changes.{Decides, opened};
 
-use super::Change;
 use super::effects::{
-    begun, closed, collimated, measured, run_dropped, run_ended, section_dropped, with_station,
+    begun, closed, collimated, lifted, measured, run_dropped, run_ended, section_dropped,
+    with_station,
 };
+use super::{Change, Shift};
 use adjust::terms::Class;
 use records::Refusal;
 use rules::call::Call;
 use rules::closing::check_close;
 use rules::opening::{check_open, class_named, instrument_named, spur_named};
 use rules::refusals::{
-    check_collimation, check_constants, check_drop, check_run_end, check_station,
+    check_collimation, check_constants, check_drop, check_lift, check_run_end, check_station,
 };
 use rules::{Book, Line};
 use station::Instrument;
 
 // A change of the line alone.
 fn of_line(line: Line) -> Change
-    ensures { result ≡ record { line = line; section = None } }
+    ensures { result ≡ record { line = line; shift = Same } }
 {
     Change {
         line,
-        section: None,
+        shift: Shift::Same,
     }
 }
 
@@ -72,7 +74,7 @@ fn constants_change(b: &Book, first: i64, second: i64) -> Result<Change, Refusal
     Ok(of_line(begun(measured(&b.line.opening, first, second))))
 }
 
-#[tactic(auto, using(crate::proofs::Joined::small_ends))]
+#[tactic(auto, using(crate::proofs::Joined::small_ends, crate::proofs::Joined::sums_small, crate::proofs::Joined::ends_fit), unfolding(crate::specs::Changes::effect_of))]
 fn end_change(b: &Book, number: i64) -> Result<Change, Refusal>
     ensures { Decides b.now (end_run number) result }
 {
@@ -83,14 +85,22 @@ fn end_change(b: &Book, number: i64) -> Result<Change, Refusal>
 // Of either drop, which leaves this line.
 fn drop_change(b: &Book, next: Line) -> Result<Change, Refusal>
     ensures number { number_of result ≡ book_refusal (state_of b.now) drop_run }
-    ensures change { IfOk result (λ x. x ≡ record { line = next; section = None }) }
+    ensures change { IfOk result (λ x. x ≡ record { line = next; shift = Same }) }
 {
     check_drop(b)?;
     Ok(of_line(next))
 }
 
+#[tactic(auto, using(crate::proofs::Joined::sums_small, crate::proofs::Joined::lift_fits), unfolding(crate::specs::Changes::effect_of))]
+fn lift_change(b: &Book) -> Result<Change, Refusal>
+    ensures { Decides b.now lift_section result }
+{
+    let section = check_lift(b)?;
+    Ok(lifted(&b.line, &section))
+}
+
 // Close a line on a known height, or a spur, which has none.
-#[tactic(auto, unfolding(crate::specs::Changes::effect_of))]
+#[tactic(auto, using(crate::proofs::Joined::closing_effect))]
 fn close_change(b: &Book, number: i64, end: Option<i64>) -> Result<Change, Refusal>
     ensures { Decides b.now (closing_on number end) result }
 {
@@ -136,5 +146,6 @@ pub fn decide(b: &Book, call: &Call) -> Result<Change, Refusal>
         Call::CloseSpur { number } => close_change(b, number, None),
         Call::Collimation { values } => collimation_change(b, values),
         Call::Constants { first, second } => constants_change(b, first, second),
+        Call::LiftSection => lift_change(b),
     }
 }

@@ -1,15 +1,18 @@
-// What a call that is taken leaves of the line, and the section that it finishes.
-ghost use Rattle.std.specs.Prelude.{◌≡◌, true, Some, None};
+// What a call that is taken leaves of the line, and of the list of its sections.
+ghost use Rattle.std.specs.Prelude.{◌≡◌, true, None};
 ghost use Rattle.station.specs.code.Bounds.{Small};
 ghost use Rattle.rules.specs.LineState.{constants_in_range, no_run, with_station, one_way, both_ways};
 ghost use Rattle.rules.specs.declared.call.Call.TheVariants.{EndRun as end_run};
-ghost use Rattle.rules.specs.Rules.{with_opening, with_runs, closed_at};
+ghost use Rattle.adjust.specs.Sections.{section_fits};
+ghost use Rattle.adjust.specs.Kept.{sums_plus, sums_minus, sums_fit};
+ghost use Rattle.rules.specs.Rules.{with_opening, with_runs, with_sums, closed_at};
 ghost use Rattle.rules.specs.Rules as Rules;
-ghost use Rattle.rules.specs.code.Bounds.{SmallRun, SmallRuns};
-ghost use Rattle.changes.specs.Changes.{effect_of};
+ghost use Rattle.rules.specs.code.Bounds.{SmallRun, SmallRuns, finish_fits};
+ghost use Rattle.changes.specs.declared.Shift.TheVariants.{Finished, Lifted};
+ghost use Rattle.changes.specs.Changes.{change_of};
 
-use super::Change;
-use adjust::{Opening, Section};
+use super::{Change, Shift};
+use adjust::{Opening, Section, SectionSums};
 use rules::{Line, Outward, Run, Stage};
 use station::{Figures, Staffs};
 
@@ -23,6 +26,7 @@ pub(crate) fn begun(opening: Opening) -> Line
         stage: Stage::Open,
         opening,
         end: 0,
+        sums: SectionSums::default(),
         waiting: None,
         present: Run::default(),
     }
@@ -108,21 +112,34 @@ fn both_ways(outward: &Outward, back: &Run) -> Section
     }
 }
 
-// A section is finished: nothing waits any more, and the next run begins.
-fn finished(line: &Line, section: Section) -> Change
-    ensures { result ≡ record { line = with_runs line.now None no_run; section = Some section } }
+// The line with other sums.
+fn with_sums(line: &Line, sums: SectionSums) -> Line
+    ensures { result ≡ with_sums line.now sums }
 {
+    let mut next = *line;
+    next.sums = sums;
+    next
+}
+
+// A section is finished: it is added to the sums, nothing waits any more, and the next run begins.
+fn finished(line: &Line, section: Section) -> Change
+    requires sums { sums_fit line.now.sums ≡ true }
+    requires section { section_fits section ≡ true }
+    ensures { result ≡ record { line = with_sums (with_runs line.now None no_run) (sums_plus line.now.opening line.now.sums section); shift = Finished section } }
+{
+    let sums = line.sums.plus(&line.opening, &section).unwrap_or(line.sums);
     Change {
-        line: section_dropped(line),
-        section: Some(section),
+        line: with_sums(&section_dropped(line), sums),
+        shift: Shift::Finished(section),
     }
 }
 
 // An outward run waits where sections are levelled out and back, and is a section where they are levelled one way. A return finishes the section.
-#[tactic(auto, unfolding(crate::specs::Changes::effect_of))]
 pub(crate) fn run_ended(line: &Line, number: i64) -> Change
-    requires { SmallRuns line.now.waiting line.now.present }
-    ensures { result ≡ effect_of line.now (end_run number) }
+    requires runs { SmallRuns line.now.waiting line.now.present }
+    requires sums { sums_fit line.now.sums ≡ true }
+    requires section { finish_fits line.now number ≡ true }
+    ensures { result ≡ change_of line.now (end_run number) }
 {
     let run = line.present;
     if let Some(outward) = line.waiting {
@@ -132,7 +149,7 @@ pub(crate) fn run_ended(line: &Line, number: i64) -> Change
         let waiting = Some(Outward { number, run });
         return Change {
             line: with_runs(line, waiting, Run::default()),
-            section: None,
+            shift: Shift::Same,
         };
     }
     finished(line, one_way(number, &run))
@@ -150,6 +167,21 @@ pub(crate) fn section_dropped(line: &Line) -> Line
     ensures { result ≡ with_runs line.now None no_run }
 {
     with_runs(line, None, Run::default())
+}
+
+// ---- lift section
+
+// The last section is taken off the sums.
+pub(crate) fn lifted(line: &Line, section: &Section) -> Change
+    requires sums { sums_fit line.now.sums ≡ true }
+    requires section { section_fits section.now ≡ true }
+    ensures { result ≡ record { line = with_sums (with_runs line.now line.now.waiting line.now.present) (sums_minus line.now.opening line.now.sums section.now); shift = Lifted } }
+{
+    let sums = line.sums.minus(&line.opening, section).unwrap_or(line.sums);
+    Change {
+        line: with_sums(&with_runs(line, line.waiting, line.present), sums),
+        shift: Shift::Lifted,
+    }
 }
 
 // ---- close

@@ -3,6 +3,7 @@
 pub mod Tables
 pub mod Parts
 pub mod Unbroken
+pub mod Finished
 pub mod Last
 pub mod Opened
 pub mod Worked

@@ -48,6 +48,8 @@ small_waiting (Some w) count e =
 -- a line beside count sections
 pub record Unbroken (l : Line) (count : ℕ) : Type 0 where
   pub few : count ≤ 64
+  pub fit : run_fits l.present ≡ true
+  pub waits : waiting_broken l.waiting count ≡ false
   pub present : SmallRun l.present
   pub waiting : SmallWaiting l.waiting count
   pub start : height_in_range l.opening.start.height ≡ true
@@ -74,6 +76,8 @@ unbroken l count e =
     let to_end = or_l (s || t) k to_staffs in
     record {
       few = leb→le count 64 (holds (not-false (leb count 64) (or_l n u to_present)));
+      fit = not-false (run_fits l.present) (or_r n u to_present);
+      waits = or_r (n || u) w to_waiting;
       present = small_run l.present (not-false (run_fits l.present) (or_r n u to_present));
       waiting = small_waiting l.waiting count (or_r (n || u) w to_waiting);
       start = not-false (height_in_range l.opening.start.height) (or_l s t to_end);

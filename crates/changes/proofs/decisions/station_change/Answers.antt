@@ -1,5 +1,5 @@
 -- `station_change` tells the refusal of the readings or of the station, or the line with the station's figures: it is unbroken then, so that its run is small.
-use Rattle.std.proofs.Common.{Ok, None, ◌≡◌, sym, ap, subst, ◌∙◌, rules}
+use Rattle.std.proofs.Common.{Ok, ◌≡◌, sym, ap, subst, ◌∙◌, rules}
 use Rattle.records.specs.Refusals.{refusal_number}
 use Rattle.numbers.proofs.Machine.{stored}
 use Rattle.station.specs.declared.Figures.{Figures}
@@ -8,6 +8,7 @@ use Rattle.rules.specs.LineState.{state_of, with_station}
 use Rattle.rules.specs.declared.call.Call.{Call}
 use Rattle.rules.specs.declared.call.Call.TheVariants.{Station as station}
 use Rattle.rules.specs.Rules.{with_runs, book_refusal}
+use Rattle.changes.specs.declared.Shift.TheVariants.{Same}
 use Rattle.changes.specs.Changes.{effect_of, Decides}
 use Rattle.changes.proofs.Joined.{book_unbroken, station_as, read_refused, read_number}
 use Rattle.changes.proofs.decisions.station_change.Goals as goal
@@ -45,6 +46,6 @@ returns c =
     let d : Decides a.b.now (station (stored a.kb) (stored a.kf) a.readings) (Ok c.of_line.result) =
     record {
       number = read_number a.b.now (stored a.kb) (stored a.kf) a.readings c.in_ok-figures.figures c.in_ok-figures.ensures.reads c.in_ok-check_station.ensures;
-      change = c.of_line.ensures ∙ (λ i. record { line = line i; section = None });
+      change = c.of_line.ensures ∙ (λ i. record { line = line i; shift = Same });
     } in
     subst (λ (k : Call). Decides a.b.now k (Ok c.of_line.result)) (station_as a.readings c.ranges.kb c.ranges.kf) d
