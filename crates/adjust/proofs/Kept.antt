@@ -1,5 +1,5 @@
 -- The sums that a line keeps: they follow the sections that come and go, they are in range where the sections are, and where they are told to be the sections' they are.
-use mathlib.Core.Path.{◌≡◌, sym, ap, ◌∙◌}
+use mathlib.Core.Path.{◌≡◌, refl, sym, ap, ◌∙◌}
 use mathlib.Core.Bool.{Bool, true, false, not, cond, ◌&&◌, ◌||◌}
 use mathlib.Core.List.{List, [], ◌∷◌, ◌++◌, map}
 use Prim.Native.Nat.{◌+◌, ◌*◌, ◌≤◌, ◌<◌}
@@ -15,6 +15,7 @@ use Rattle.numbers.proofs.Equal.{eq_z_refl, eq_z_eq}
 use Rattle.numbers.proofs.Machine.{stored}
 use Rattle.numbers.proofs.Chain.{Value, known, add, sub, kept}
 use Rattle.numbers.proofs.Last.{last_parts, sum_more}
+use Rattle.roots.specs.Round.{round_even}
 use Rattle.station.specs.declared.Staffs.{Staffs}
 use Rattle.station.specs.declared.Staffs.TheVariants.{Nominal, Measured}
 use Rattle.adjust.specs.declared.Opening.{Opening}
@@ -47,8 +48,19 @@ sums_back o s x = λ i. record { height = back s.height x.height i; distance = b
     back : (a b : ℤ) → (a +ℤ b) -ℤ b ≡ a
     back a b = simp ringℤ
 
-pub sums_less : (o : Opening) (x : Section) (xs : List Section) → sums_of o (but_last (x ∷ xs)) ≡ sums_minus o (sums_of o (x ∷ xs)) (last_of no_section (x ∷ xs))
-sums_less o x xs =
+-- a section of zeros has no error
+no_error : (o : Opening) → error_of o no_section ≡ pos 0
+unfolding round_even
+no_error o = go (terms_of o.class).double o.staffs
+  where
+    go : (t : Bool) (c : Staffs) → cond t (accidental (squared_of c) no_section) (pos 0) ≡ pos 0
+    go true Nominal = refl
+    go true (Measured first second) = refl
+    go false c = refl
+
+pub sums_less : (o : Opening) (ss : List Section) → sums_of o (but_last ss) ≡ sums_minus o (sums_of o ss) (last_of no_section ss)
+sums_less o [] = λ i. record { height = pos 0; distance = pos 0; accidental = pos 0 -ℤ sym (no_error o) i }
+sums_less o (x ∷ xs) =
     let ss : List Section = x ∷ xs in
     let last : Section = last_of no_section ss in
     sym (sums_back o (sums_of o (but_last ss)) last)

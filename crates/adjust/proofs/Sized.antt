@@ -1,6 +1,6 @@
 -- One to 64 sections in the wider range between known heights: the sizes of ΣQ, L and W, and that a line is at least 1 long.
-use mathlib.Core.Path.{◌≡◌, refl, ap}
-use mathlib.Core.Bool.{Bool, true, false, not, cond, ◌&&◌}
+use mathlib.Core.Path.{◌≡◌, refl}
+use mathlib.Core.Bool.{Bool, true, false, cond, ◌&&◌}
 use mathlib.Core.List.{List, [], ◌∷◌}
 use Prim.Native.Nat.{ℕ, ◌*◌, ◌≤◌}
 use native.Mathlib.Omega.{arith}
@@ -8,29 +8,23 @@ use lib.Dec.{leb, ltb, leb→le, ltb→lt, nltb→le}
 use lib.ListN.{length}
 use lib.IntN.{ℤ, pos, neg_ℤ, nat_abs}
 use lib.Signed.{◌≤ℤ◌, le_z}
-use Rattle.std.specs.Prelude.{Some, None}
-use Rattle.numbers.proofs.Tests.{holds, fails, and_l, and_r, or_l, or_r, not-true, not-false}
+use Rattle.numbers.proofs.Tests.{holds, fails, and_l, and_r, not-false}
 use Rattle.numbers.proofs.Parts.{ints, parts_add, parts_abs, test_le}
 use Rattle.numbers.proofs.Sizes.{abs_add}
-use Rattle.std.proofs.lemmas.Int.{to_z-of_z}
 use Rattle.numbers.proofs.Tables.{failed}
 use Rattle.numbers.proofs.Chain.{plain, add, sub, mul}
 use Rattle.station.specs.declared.Staffs.{Staffs}
 use Rattle.station.specs.declared.Staffs.TheVariants.{Nominal, Measured}
-use Rattle.adjust.specs.declared.Opening.{Opening}
 use Rattle.adjust.specs.declared.Section.{Section}
-use Rattle.adjust.specs.declared.SectionSums.{SectionSums}
 use Rattle.adjust.specs.declared.Totals.{Totals}
 use Rattle.adjust.specs.declared.terms.Terms.{Terms}
 use Rattle.adjust.specs.Sizes.{highest, most_q, most_r, most_units, most_prints, most_squared, most_sum_q, most_w}
-use Rattle.adjust.specs.Sections.{section_fits, any_outside, misfit, height_in_range}
+use Rattle.adjust.specs.Sections.{height_in_range}
 use Rattle.adjust.specs.Terms.{squared_of}
-use Rattle.adjust.specs.Line.{quarters, wholes, units_of, line_height, line_length, totals_by, frame, frame_of, closing}
-use Rattle.adjust.specs.Kept.{totals_from, sums_fit}
-use Rattle.adjust.specs.Frames.{figures_fit, line_totals, adjusted_of, line_figures}
+use Rattle.adjust.specs.Line.{quarters, wholes, units_of, line_height, line_length, totals_by, frame, frame_of}
 use Rattle.adjust.specs.Call.{adjust_tests, adjust_refusal}
-use Rattle.adjust.specs.code.Bounds.{OneTo, Fitted, Between, Framed}
-use Rattle.adjust.proofs.Lists.{Fit, fit_head, fit_tail, fitted_legs, strict_legs}
+use Rattle.adjust.specs.code.Bounds.{OneTo, Between, Framed}
+use Rattle.adjust.proofs.Lists.{Fit, fit_head, fit_tail, strict_legs}
 
 pub height_size : (xs : List Section) → Fit xs → nat_abs (line_height xs) ≤ most_q * length xs
 height_size [] f = omega arith
@@ -90,48 +84,6 @@ framed_by terms {t} f = record { units = f.units; prints = f.prints; start = f.s
     smaller : (known : Bool) → nat_abs (cond known t.closure (pos 0)) ≤ most_w
     smaller true = f.closure
     smaller false = omega arith
-
--- ---- figures that fit
-
-pub fitting : (start end : ℤ) (ss : List Section) → figures_fit start end ss ≡ true → Between start end ss × Fitted ss
-unfolding figures_fit
-fitting start end ss e =
-    let some_test = ltb 0 (length ss) in
-    let fit_test = not (misfit ss) in
-    let heights = and_l (some_test && fit_test && height_in_range start) (height_in_range end) e in
-    let sections = and_l (some_test && fit_test) (height_in_range start) heights in
-    let fit = not-true (misfit ss) (and_r some_test fit_test sections) in
-    let inside = or_r (not (leb (length ss) 64)) (any_outside section_fits ss) fit in
-    let few : length ss ≤ 64 = leb→le (length ss) 64 (holds (not-false (leb (length ss) 64) (or_l (not (leb (length ss) 64)) (any_outside section_fits ss) fit))) in (
-      record {
-        some = omega (arith, ltb→lt 0 (length ss) (holds (and_l some_test fit_test sections)));
-        fits = record { few = few; legs = fitted_legs ss inside };
-        start_size = in_range_lem start (and_r (some_test && fit_test) (height_in_range start) heights);
-        end_size = in_range_lem end (and_r (some_test && fit_test && height_in_range start) (height_in_range end) e);
-      },
-      record { few = few; sections = inside },
-    )
-
-module _ (start end : ℤ) (ss : List Section) (e : figures_fit start end ss ≡ true) where
-  pub fit_between : Between start end ss
-  fit_between = (fitting start end ss e).0
-
-  pub fit_fitted : Fitted ss
-  fit_fitted = (fitting start end ss e).1
-
--- what is asked where figures fit, by the machine's heights
-pub ruleset fits = (units_in, squared_in, fit_between, fit_fitted, to_z-of_z)
-
--- ---- what is answered of figures that fit, and of those that do not: two laws of their own
-
-pub totals_given : (c : Staffs) (start end : ℤ) (s : SectionSums) → sums_fit s ≡ true → height_in_range start ≡ true → height_in_range end ≡ true
-    → line_totals c start end s ≡ Some (totals_from (units_of c) start end s)
-unfolding line_totals
-totals_given c start end s f g h = λ i. cond (f i && g i && h i) (Some (totals_from (units_of c) start end s)) None
-
-pub figures_by : (o : Opening) (end : ℤ) (ss : List Section) {t : Bool} → figures_fit o.start.height end ss ≡ t → line_figures o end ss ≡ cond t (Some (adjusted_of (closing o end ss))) None
-unfolding line_figures
-figures_by o end ss e = ap (λ (t : Bool). cond t (Some (adjusted_of (closing o end ss))) None) e
 
 -- ---- an adjustment that is not refused
 

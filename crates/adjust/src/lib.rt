@@ -3,11 +3,11 @@
 
 ghost use Rattle.std.specs.Prelude.{◌≡◌, ◌≤◌, take};
 ghost use Rattle.adjust.specs.Sections.{sections_of, height_in_range};
-ghost use Rattle.adjust.specs.Kept.{unsummed};
+ghost use Rattle.adjust.specs.Kept.{sums_of, unsummed};
 ghost use Rattle.adjust.specs.Frames.{figures_fit, line_totals, adjusted_of, line_figures};
 ghost use Rattle.adjust.specs.Terms.{terms_by};
 ghost use Rattle.adjust.specs.Line.{units_of, closing, verdict_number};
-ghost use Rattle.adjust.specs.code.Bounds.{Between, Fitted};
+ghost use Rattle.adjust.specs.code.Bounds.{Between};
 
 mod accidental;
 pub mod call;
@@ -174,14 +174,14 @@ pub fn height_in_range(h: i64) -> bool
     (-999999..=8999999).contains(&h)
 }
 
-// Whether there are 1 to 64 sections in the wider range, between heights in theirs: then all figures fit 64 bits.
+// Whether there are 1 to 64 sections in the wider range, beside their sums, between heights in theirs: then all figures fit 64 bits.
 #[tactic(auto, unfolding(crate::specs::Frames::figures_fit))]
-fn figures_fit(start: i64, end: i64, sections: &[Section]) -> bool
-    ensures { result ≡ figures_fit start end sections.now }
+fn figures_fit(opening: &Opening, end: i64, kept: &SectionSums, sections: &[Section]) -> bool
+    ensures { result ≡ figures_fit opening.now end kept.now sections.now }
 {
     !sections.is_empty()
-        && !ranges::misfit(sections)
-        && height_in_range(start)
+        && !keeping::unsummed(opening, kept, sections)
+        && height_in_range(opening.start.height)
         && height_in_range(end)
 }
 
@@ -193,7 +193,7 @@ fn units_of(staffs: Staffs) -> i64
 }
 
 // W and L between two known heights by the sums that a line keeps; none where one of these is out of range.
-#[tactic(auto, using(crate::proofs::Sized::fits), unfolding(crate::specs::Frames::line_totals))]
+#[tactic(auto, using(crate::proofs::Fitting::fits), unfolding(crate::specs::Frames::line_totals))]
 pub fn totals_of(staffs: Staffs, start: i64, end: i64, kept: &SectionSums) -> Option<Totals>
     ensures { result ≡ line_totals staffs start end kept.now }
 {
@@ -203,9 +203,9 @@ pub fn totals_of(staffs: Staffs, start: i64, end: i64, kept: &SectionSums) -> Op
     None
 }
 
-// The closing of figures that fit.
-fn closing_of(opening: &Opening, end: i64, sections: &[Section]) -> LineFigures
-    requires { Between opening.now.start.height end sections.now × Fitted sections.now }
+// The closing of figures that fit: W, L and T are by the sums that the line keeps.
+fn closing_of(opening: &Opening, end: i64, kept: &SectionSums, sections: &[Section]) -> LineFigures
+    requires { Between opening.now.start.height end sections.now × (kept.now ≡ sums_of opening.now sections.now) }
     ensures { result ≡ adjusted_of (closing opening.now end sections.now) }
 {
     let start = opening.start;
@@ -213,17 +213,15 @@ fn closing_of(opening: &Opening, end: i64, sections: &[Section]) -> LineFigures
     let terms = opening.class.terms();
     let t = sums::totals_by(
         terms,
-        sums::totals_between(units, start.height, end, sections),
+        sums::totals_from(units, start.height, end, kept.height, kept.distance),
     );
     let f = Frame::new(units, WHOLES, start.height, t);
-    let squared = terms::squared_of(opening.staffs);
-    let accidental = accidental::accidental_sum(terms, squared, sections);
     let summary = Summary {
         closure: f.prints * f.closure,
         distance: f.total,
         count: sections.len(),
-        accidental,
-        verdict: accidental::verdict_of(terms, sections.len(), accidental),
+        accidental: kept.accidental,
+        verdict: accidental::verdict_of(terms, sections.len(), kept.accidental),
     };
     LineFigures {
         summary,
@@ -232,12 +230,17 @@ fn closing_of(opening: &Opening, end: i64, sections: &[Section]) -> LineFigures
 }
 
 // What closing the line gives, where `figures_fit`: W, L, n, T, the verdict and the points. Of a spur `end` is only held to its range.
-#[tactic(auto, using(crate::proofs::Sized::fits), unfolding(crate::specs::Frames::line_figures))]
-pub fn adjusted_line(opening: &Opening, end: i64, sections: &[Section]) -> Option<LineFigures>
-    ensures { result ≡ line_figures opening.now end sections.now }
+#[tactic(auto, using(crate::proofs::Fitting::fits), unfolding(crate::specs::Frames::line_figures))]
+pub fn adjusted_line(
+    opening: &Opening,
+    end: i64,
+    kept: &SectionSums,
+    sections: &[Section],
+) -> Option<LineFigures>
+    ensures { result ≡ line_figures opening.now end kept.now sections.now }
 {
-    if figures_fit(opening.start.height, end, sections) {
-        return Some(closing_of(opening, end, sections));
+    if figures_fit(opening, end, kept, sections) {
+        return Some(closing_of(opening, end, kept, sections));
     }
     None
 }

@@ -18,7 +18,7 @@ use Rattle.adjust.specs.declared.Section.{Section}
 use Rattle.adjust.specs.Sections.{sections_of, section_fits, any_outside, misfit, height_in_range}
 use Rattle.adjust.specs.Frames.{figures_fit, adjusted_of, line_figures}
 use Rattle.adjust.proofs.Holding.{sections_count}
-use Rattle.adjust.proofs.Kept.{summed_fit}
+use Rattle.adjust.proofs.Fitting.{fit_between}
 use Rattle.rules.specs.declared.Book.{Book}
 use Rattle.rules.specs.LineState.{LineState, state_of, is_closed, is_empty, is_return, line_broken}
 use Rattle.rules.specs.declared.call.Call.TheVariants.{CloseLine as close_line, CloseSpur as close_spur}
@@ -36,16 +36,17 @@ module _ (b : Book) where
   ss = sections_of b.sections
 
   -- where 20 does not hold of the line and its sections, and there is a section
-  in_range : (end : ℤ) → broken_in (all_broken (state_of b)) (state_of b) ≡ false → is_empty ss ≡ false → height_in_range end ≡ true → figures_fit b.line.opening.start.height end ss ≡ true
+  in_range : (end : ℤ) → broken_in (all_broken (state_of b)) (state_of b) ≡ false → is_empty ss ≡ false → height_in_range end ≡ true → figures_fit b.line.opening end b.line.sums ss ≡ true
   unfolding figures_fit
   in_range end e some known =
       let all = all_broken (state_of b) in
-      let fit = summed_fit b.line.opening b.line.sums ss (or_l all (line_broken b.line (length ss)) e) in
+      let fit = or_l all (line_broken b.line (length ss)) e in
       let line = unbroken b.line (length ss) (or_r all (line_broken b.line (length ss)) e) in
       λ i. some_long ss some i && not (fit i) && line.start i && known i
 
   -- of a closing that is taken; of a spur's, the end height stays a placeholder
   closed_taken : (number : ℤ) (end : Option ℤ) → book_refusal (state_of b) (closing_on number end) ≡ 0 → Fit (taken (state_of b) (closing_on number end))
+  unfolding figures_fit
   closed_taken number (Some end) e =
       let test = book_fails (state_of b) (close_line number end) e in
       in_range end (test 20) (or_r (not (eqb b.line.present.count 0) || is_return b.line.waiting) (is_empty ss) (test 33)) (not-false (height_in_range end) (test 5))
@@ -54,7 +55,7 @@ module _ (b : Book) where
       in_range (pos 0) (test 20) (or_r (not (eqb b.line.present.count 0) || is_return b.line.waiting) (is_empty ss) (test 33)) refl
 
   -- of END, as the documents name it: a law of its own
-  pub closing_fits : (number end : ℤ) → book_refusal (state_of b) (close_line number end) ≡ 0 → figures_fit b.line.opening.start.height end ss ≡ true
+  pub closing_fits : (number end : ℤ) → book_refusal (state_of b) (close_line number end) ≡ 0 → figures_fit b.line.opening end b.line.sums ss ≡ true
   closing_fits number end e = closed_taken number (Some end) e
 
   -- so the book that a closing left has figures
@@ -63,7 +64,7 @@ module _ (b : Book) where
     where
       go : (a : Result (Unit {0}) Refusal) → number_of a ≡ book_refusal (state_of b) (closing_on number end) → IfOk a (λ _. Fit (state_of r.book))
       go (Ok x) n =
-          ap (λ (v : LineState). figures_fit v.line.opening.start.height v.line.end v.sections) (ap state_of h.book ∙ left b (closing_on number end) (sym n))
+          ap (λ (v : LineState). figures_fit v.line.opening v.line.end v.line.sums v.sections) (ap state_of h.book ∙ left b (closing_on number end) (sym n))
           ∙ closed_taken number end (sym n)
       go (Err x) n = tt
 
@@ -76,16 +77,9 @@ module _ (b : Book) where
 
   -- and then there is a place for each section
   pub few : Fit (state_of b) → b.sections.count ≤ 64
-  unfolding figures_fit
-  few e =
-      let some = ltb 0 (length ss) in
-      let fit = not (misfit ss) in
-      let start = height_in_range b.line.opening.start.height in
-      let held = not-true (misfit ss) (and_r some fit (and_l (some && fit) start (and_l (some && fit && start) (height_in_range b.line.end) e))) in
-      let count : length ss ≤ 64 = leb→le (length ss) 64 (holds (not-false (leb (length ss) 64) (or_l (not (leb (length ss) 64)) (any_outside section_fits ss) held))) in
-      omega (arith, count, sections_count b.sections)
+  few e = omega (arith, (fit_between b.line.opening b.line.end b.line.sums ss e).fits.few, sections_count b.sections)
 
   -- and they are had
-  pub line_given : Fit (state_of b) → line_figures b.line.opening b.line.end ss ≡ Some (adjusted_of (closing_of (state_of b)))
+  pub line_given : Fit (state_of b) → line_figures b.line.opening b.line.end b.line.sums ss ≡ Some (adjusted_of (closing_of (state_of b)))
   unfolding line_figures
   line_given e = ap (λ (t : Bool). cond t (Some (adjusted_of (closing_of (state_of b)))) None) e

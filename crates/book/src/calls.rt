@@ -132,7 +132,10 @@ fn figures_that_fit(b: &Book) -> Result<LineFigures, Refusal>
     ensures number { number_of result ≡ 0 }
     ensures figures { IfOk result (λ f. f ≡ adjusted_of (closing_of (state_of b.now))) }
 {
-    adjust::adjusted_line(&b.line.opening, b.line.end, b.sections.listed()).ok_or(Refusal::Broken)
+    let line = &b.line;
+    adjust::adjusted_line(&line.opening, line.end, &line.sums, b.sections.listed()).ok_or(
+        Refusal::Broken,
+    )
 }
 
 // What closing gives of the book that it left, or its refusal.

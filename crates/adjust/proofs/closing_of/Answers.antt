@@ -1,5 +1,5 @@
--- `closing_of`: the frame is the line's, and what is answered follows from the sums, T, the verdict and the points.
-use Rattle.std.proofs.Common.{◌≡◌, List, length, sym, ap, ◌∙◌, ◌*◌, rules}
+-- `closing_of`: the frame is the line's, since the sums that it keeps are the sections', and what is answered follows from these, the verdict and the points.
+use Rattle.std.proofs.Common.{◌≡◌, List, length, sym, ap, ◌∙◌, ◌*◌, ◌≤◌, rules, arith}
 use mathlib.Core.Path.{subst}
 use lib.IntN.{◌*ℤ◌, nat_abs}
 use mir.Syntax.{w64}
@@ -8,13 +8,18 @@ use Rattle.numbers.specs.Numbers.{filled}
 use Rattle.numbers.proofs.Machine.{stored, stored_id}
 use Rattle.numbers.proofs.Chain.{Value, known, mul, kept}
 use Rattle.adjust.specs.declared.Section.{Section}
+use Rattle.adjust.specs.declared.SectionSums.{SectionSums}
 use Rattle.adjust.specs.declared.Frame.{Frame}
-use Rattle.adjust.specs.Sizes.{most_prints, most_w}
+use Rattle.station.specs.declared.Staffs.TheVariants.{Nominal}
+use Rattle.adjust.specs.declared.terms.Terms.{Terms}
+use Rattle.adjust.specs.Sizes.{highest, most_units, most_prints, most_allowed, most_sum_q, most_w}
 use Rattle.adjust.specs.Terms.{terms_of}
-use Rattle.adjust.specs.Line.{wholes, totals, totals_by, frame, line_frame, points, accidental_sum, verdict}
+use Rattle.adjust.specs.Line.{wholes, units_of, closure_by, totals_by, frame, line_frame, points, verdict}
+use Rattle.adjust.specs.Kept.{totals_from}
 use Rattle.adjust.specs.Frames.{no_point}
-use Rattle.adjust.specs.code.Bounds.{Framed}
-use Rattle.adjust.proofs.Sized.{units_in, wholes_in, framed, framed_by}
+use Rattle.adjust.specs.code.Bounds.{OneTo, Framed}
+use Rattle.adjust.proofs.Classes.{row}
+use Rattle.adjust.proofs.Sized.{height_size, units_in, wholes_in, framed, framed_by}
 use Rattle.adjust.proofs.closing_of.Goals as goal
 use Rattle.adjust.proofs.closing_of.Goals.{After-new-f}
 
@@ -34,8 +39,30 @@ module _ (c : After-new-f) where
       let u : SFits w64 c.units_of-units.result = search rules in
       let h = stored_id start in
       let units = stored_id u ∙ c.units_of-units.ensures in
-      let ends = c.totals_between.ensures ∙ (λ i. totals (units i) (h i) (stored_id c.ranges.end i) ss) in
+      let q : SFits w64 c.args.kept.now.height = search rules in
+      let d : SFits w64 c.args.kept.now.distance = search rules in
+      let ends = c.totals_from.ensures ∙ (λ i. record { closure = closure_by (units i) (h i) (stored_id c.ranges.end i) (stored_id q i); distance = stored_id d i })
+      ∙ ap (totals_from (units_of c.args.opening.now.staffs) c.args.opening.now.start.height c.args.end) c.requires.1 in
       c.new-f.ensures ∙ (λ i. frame (units i) wholes (h i) ((c.totals_by-t.ensures ∙ (λ j. totals_by (c.terms-terms.ensures j) (ends j))) i))
+
+pub totals_from-requires : goal.totals_from-requires
+totals_from-requires c =
+    let o = c.args.opening.now in
+    let between = c.requires.0 in
+    let start : SFits w64 o.start.height = search rules in
+    let u : SFits w64 c.units_of-units.result = search rules in
+    let q : SFits w64 c.args.kept.now.height = search rules in
+    let begin : nat_abs (stored o.start.height) ≤ highest = omega (arith, ap nat_abs (stored_id start), between.start_size) in
+    let end : nat_abs (stored c.args.end) ≤ highest = omega (arith, ap nat_abs (stored_id c.ranges.end), between.end_size) in
+    let height : nat_abs (stored c.args.kept.now.height) ≤ most_sum_q =
+    omega (arith, ap nat_abs (stored_id q ∙ ap (λ (k : SectionSums). k.height) c.requires.1), height_size c.args.sections.now between.fits.legs, between.fits.few) in
+    (subst (OneTo most_units) (sym (stored_id u ∙ c.units_of-units.ensures)) (units_in o.staffs), begin, end, height)
+
+pub verdict_of-requires : goal.verdict_of-requires
+verdict_of-requires c =
+    let allowed : nat_abs c.terms-terms.result.accidental ≤ most_allowed =
+    omega (arith, ap (λ (t : Terms). nat_abs t.accidental) c.terms-terms.ensures, (row Nominal c.args.opening.now.class).accidental) in
+    (c.requires.0.fits.few, allowed)
 
 pub points-requires : goal.points-requires
 points-requires c =
@@ -52,12 +79,10 @@ returns c =
     let e = frame_is f in
     let m = c.terms-terms.ensures in
     let number : SFits w64 c.args.opening.now.start.number = search rules in
-    let tf : SFits w64 c.accidental_sum-accidental.result = search rules in
     let w = (kept (printed c.new-f.result (subst Framed (sym e) (framed_line f))) tt).is ∙ (λ i. (e i).prints *ℤ (e i).closure) in
     let l = ap (λ (x : Frame). stored x.total) e ∙ (known (line f).total (framed_line f).total.most tt).is in
-    let qf : SFits w64 c.squared_of-squared.result = search rules in
-    let q = stored_id qf ∙ c.squared_of-squared.ensures in
-    let t = stored_id tf ∙ c.accidental_sum-accidental.ensures ∙ (λ i. accidental_sum (m i) (nat_abs (q i)) (ss f)) in
+    let tf : SFits w64 c.args.kept.now.accidental = search rules in
+    let t = stored_id tf ∙ ap (λ (k : SectionSums). k.accidental) c.requires.1 in
     let judged = c.verdict_of.ensures ∙ (λ i. verdict (m i) (length (ss f)) (t i)) in
     let shown = c.points.ensures ∙ (λ i. filled no_point 65 (points (e i) (stored_id number i) (ss f))) in
     λ i. record { summary = record { closure = w i; distance = l i; count = length (ss f); accidental = t i; verdict = judged i }; points = shown i }

@@ -16,4 +16,4 @@ pub record Makes (b : Book) (decided : Result Change Refusal) (r : Result (Unit 
 
 -- the figures of a line on the end height that it has fit 64 bits
 abbrev pub Fit : LineState → Type 0
-Fit v = figures_fit v.line.opening.start.height v.line.end v.sections ≡ true
+Fit v = figures_fit v.line.opening v.line.end v.line.sums v.sections ≡ true

@@ -13,8 +13,8 @@ use Rattle.adjust.specs.Line.{units_of, totals}
 use Rattle.adjust.specs.Sections.{height_in_range}
 use Rattle.adjust.specs.Kept.{totals_from}
 use Rattle.adjust.specs.Frames.{line_totals}
-use Rattle.adjust.proofs.Sized.{totals_given}
 use Rattle.adjust.proofs.Kept.{summed_are}
+use Rattle.adjust.proofs.Fitting.{totals_given}
 use Rattle.rules.specs.LineState.{LineState, line_broken}
 use Rattle.rules.specs.code.Standing.{standing_of}
 use Rattle.rules.proofs.Unbroken.{unbroken}
