@@ -4,18 +4,18 @@ use mathlib.Core.Bool.{Bool, true, false, not, cond, ◌&&◌, ◌||◌}
 use mathlib.Core.List.{List}
 use native.Mathlib.Omega.{arith}
 use Prim.Native.Nat.{◌≤◌}
-use lib.Dec.{leb, ltb, eqb, leb→le}
+use lib.Dec.{eqb}
 use lib.ListN.{length}
 use lib.IntN.{ℤ, pos}
 use Rattle.std.specs.Prelude.{Ok, Err, Some, None, IfOk}
 use Rattle.std.specs.declared.option.Option.{Option}
 use Rattle.std.specs.declared.result.Result.{Result}
-use Rattle.numbers.proofs.Tests.{holds, and_l, and_r, or_l, or_r, not-true, not-false}
+use Rattle.numbers.proofs.Tests.{or_l, or_r, not-false}
 use Rattle.numbers.proofs.Tables.{failed}
 use Rattle.records.specs.declared.Refusal.{Refusal}
 use Rattle.records.specs.Refusals.{number_of}
 use Rattle.adjust.specs.declared.Section.{Section}
-use Rattle.adjust.specs.Sections.{sections_of, section_fits, any_outside, misfit, height_in_range}
+use Rattle.adjust.specs.Sections.{sections_of, height_in_range}
 use Rattle.adjust.specs.Frames.{figures_fit, adjusted_of, line_figures}
 use Rattle.adjust.proofs.Holding.{sections_count}
 use Rattle.adjust.proofs.Fitting.{fit_between}
@@ -56,6 +56,7 @@ module _ (b : Book) where
 
   -- of END, as the documents name it: a law of its own
   pub closing_fits : (number end : ℤ) → book_refusal (state_of b) (close_line number end) ≡ 0 → figures_fit b.line.opening end b.line.sums ss ≡ true
+  unfolding figures_fit
   closing_fits number end e = closed_taken number (Some end) e
 
   -- so the book that a closing left has figures

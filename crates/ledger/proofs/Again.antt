@@ -25,7 +25,7 @@ pub held : (r : Reading) {b : Book} → b ≡ book_of r → state_of b ≡ plain
 held r p = ap state_of p ∙ (λ i. record { line = (plain_state r).line; sections = sections_holding fresh_book.sections (plain_state r).sections i })
 
 pub fresh_holds : fresh_book ≡ book_of fresh_reading
-fresh_holds = λ i. record { line = fresh_book.line; sections = sym (holding_none fresh_book.sections) i }
+fresh_holds = λ i. record { line = fresh_book.line; sections = sym holding_none i }
 
 -- under the number 0 an answer is the value that is given
 pub ok_of : {A : Type 0} {a : A} (r : Result A Refusal) → number_of r ≡ 0 → IfOk r (λ x. x ≡ a) → r ≡ Ok a

@@ -29,7 +29,7 @@ use Rattle.rules.specs.declared.Stage.{Stage}
 use Rattle.rules.specs.declared.Stage.TheVariants.{Closed}
 use Rattle.rules.specs.LineState.{LineState}
 use Rattle.rules.specs.declared.call.Call.{Call}
-use Rattle.rules.specs.declared.call.Call.TheVariants.{OpenLine as open_line, EndRun as end_run, DropRun as drop_run, DropSection as drop_section, CloseLine as close_line, OpenSpur as open_spur, CloseSpur as close_spur, Constants as constants}
+use Rattle.rules.specs.declared.call.Call.TheVariants.{OpenLine as open_line, EndRun as end_run, DropRun as drop_run, DropSection as drop_section, CloseLine as close_line, OpenSpur as open_spur, CloseSpur as close_spur, Constants as constants, LiftSection as lift_section}
 use Rattle.rules.specs.Rules.{is_closing, input_tests}
 use Rattle.ledger.specs.Plain.{Reading, Awaited, fresh_reading, after, next, taken, refusal, plain_state, run_ended, refusals, figures_of, given, closings}
 use Rattle.ledger.specs.Claims.{others, Ends, SoundClosing, SpurHeights, ClosedBy, by_end, by_fin, ClosedOnce, EveryList, taken_only, StruckOut}
@@ -50,6 +50,7 @@ module _ (r : Reading) (e : r.stage ≡ Closed) where
       go : (c : Call) → eqb (refusal (staged r Closed) c) 0 ≡ false
       go drop_run = refl
       go drop_section = refl
+      go lift_section = refl
       go (constants first second) = met (input_tests (constants first second)) 43 refl refl
       go c = met (input_tests c) 21 refl refl
 

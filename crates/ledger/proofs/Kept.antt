@@ -5,7 +5,6 @@ use mathlib.Core.List.{List, [], ◌∷◌, ◌++◌}
 use Prim.Native.Nat.{ℕ, ◌%◌, ◌≤◌, ◌<◌}
 use Rattle.std.specs.declared.option.Option.{Option}
 use Rattle.std.specs.Prelude.{Some, None}
-use native.Mathlib.Nat.{le_refl}
 use native.Mathlib.Omega.{arith}
 use borrow.Author.Tests.{le-leb, lt-leb, leb-false, eqb-false, ne_eqb}
 use lib.Dec.{leb, eqb, eqb→eq}
@@ -15,8 +14,9 @@ use lib.Signed.{◌≤ℤ◌, le_z}
 use Rattle.numbers.specs.Tables.{first_of}
 use Rattle.numbers.proofs.Tests.{by_test, no_true, and_l, and_r, or_l, or_r, not-false}
 use Rattle.numbers.proofs.Tables.{first_skips}
-use Rattle.numbers.proofs.All.{All, all_cons, all_append}
-use Rattle.numbers.specs.Numbers.{between}
+use Rattle.numbers.proofs.All.{All, all_head, all_tail, all_cons, all_append}
+use Rattle.numbers.proofs.Last.{but_last_length}
+use Rattle.numbers.specs.Numbers.{between, last_of, but_last}
 use Rattle.numbers.proofs.Parts.{ints, parts_abs, pos_abs, test_le}
 use Rattle.station.specs.declared.Staffs.{Staffs}
 use Rattle.station.specs.declared.Staffs.TheVariants.{Nominal, Measured}
@@ -26,26 +26,29 @@ use Rattle.adjust.specs.declared.terms.Class.TheVariants.{Spur}
 use Rattle.adjust.specs.declared.terms.Root.{Root}
 use Rattle.adjust.specs.declared.terms.Terms.{Terms}
 use Rattle.adjust.specs.Terms.{terms_of, terms_by}
-use Rattle.adjust.specs.Sections.{section_fits, misfit, height_in_range}
+use Rattle.adjust.specs.declared.SectionSums.{SectionSums}
+use Rattle.adjust.specs.Sections.{no_section, section_fits, height_in_range}
+use Rattle.adjust.specs.Kept.{sums_of, sums_plus, sums_minus, sums_fit, unsummed}
 use Rattle.adjust.specs.Line.{line_length}
 use Rattle.adjust.proofs.Classes.{row}
 use Rattle.adjust.proofs.Lists.{fitted_legs}
 use Rattle.adjust.proofs.Sized.{long}
+use Rattle.adjust.proofs.Kept.{sums_more, sums_less, sums_in_range, own_summed}
 use Rattle.rules.specs.declared.Stage.{Stage}
 use Rattle.rules.specs.declared.Stage.TheVariants.{Fresh, Open, Closed}
 use Rattle.rules.specs.declared.Run.{Run}
 use Rattle.rules.specs.declared.Line.{Line}
 use Rattle.rules.specs.declared.Outward.{Outward}
-use Rattle.rules.specs.LineState.{LineState, is_fresh, is_open, constants_in_range, staffs_fit, is_closed, is_shut, is_empty, is_return, outward_or_return, no_run, one_way, both_ways, waiting_broken, misplaced, line_broken}
+use Rattle.rules.specs.LineState.{LineState, is_fresh, is_open, constants_in_range, staffs_fit, is_closed, is_shut, is_empty, is_return, outward_or_return, no_run, one_way, both_ways, waiting_broken, misplaced, out_of_range, line_broken}
 use Rattle.rules.specs.declared.call.Call.{Call}
-use Rattle.rules.specs.declared.call.Call.TheVariants.{OpenLine as open_line, Station as station, EndRun as end_run, DropRun as drop_run, DropSection as drop_section, CloseLine as close_line, OpenSpur as open_spur, CloseSpur as close_spur, Collimation as collimation, Constants as constants}
-use Rattle.rules.specs.Rules.{is_closing, broken, input_tests, state_tests, refusal, book_refusal, number_in_range, discrepancy_within, class_of, opening_of, collimated, measured, begun, closed_at, with_opening, with_runs, with_section, run_ended, taken}
+use Rattle.rules.specs.declared.call.Call.TheVariants.{OpenLine as open_line, Station as station, EndRun as end_run, DropRun as drop_run, DropSection as drop_section, CloseLine as close_line, OpenSpur as open_spur, CloseSpur as close_spur, Collimation as collimation, Constants as constants, LiftSection as lift_section}
+use Rattle.rules.specs.Rules.{is_closing, is_lift, all_broken, last_broken, broken, input_tests, state_tests, refusal, book_refusal, number_in_range, discrepancy_within, class_of, opening_of, collimated, measured, begun, closed_at, with_opening, with_runs, with_section, lifted, run_ended, taken}
 use Rattle.rules.proofs.Tables.{fails}
-use Rattle.rules.proofs.Unbroken.{fresh_none, untouched_none}
+use Rattle.rules.proofs.Finished.{one_way_fits, both_ways_fits}
 use Rattle.ledger.specs.Plain as Plain
 use Rattle.ledger.specs.Plain.{Reading, fresh_reading, after, next, plain_state}
 use Rattle.ledger.proofs.Follows.{follows}
-use Rattle.ledger.proofs.Runs.{Sized, no_run_sized, station_sized, run_fits_lem, one_way_fits, both_ways_fits, narrow, one_way_narrow, both_ways_narrow}
+use Rattle.ledger.proofs.Runs.{Sized, no_run_sized, station_sized, run_fits_lem, narrow, one_way_narrow, both_ways_narrow}
 
 -- ---- stages
 
@@ -70,6 +73,7 @@ pub record Kept (v : LineState) : Type 0 where
   pub start : height_in_range v.line.opening.start.height ≡ true
   pub end : height_in_range v.line.end ≡ true
   pub closed : v.line.stage ≡ Closed → 1 ≤ length v.sections
+  pub sums : v.line.sums ≡ sums_of v.line.opening v.sections
   pub placed : misplaced v.line (length v.sections) ≡ false
   -- what the report's fields ask
   pub number : nat_abs v.line.opening.start.number ≤ 9999
@@ -77,24 +81,49 @@ pub record Kept (v : LineState) : Type 0 where
   -- measured constants are in their ranges
   pub staffs : staffs_fit v.line.opening.staffs ≡ true
 
+-- of the last element too, and of all others
+all_last : {A : Type 0} (p : A → Bool) (x : A) (xs : List A) → All p (x ∷ xs) → p (last_of x xs) ≡ true
+all_last p x [] f = all_head p x [] f
+all_last p x (y ∷ ys) f = all_last p y ys (all_tail p x (y ∷ ys) f)
+
+all_but_last : {A : Type 0} (p : A → Bool) (xs : List A) → All p xs → All p (but_last xs)
+all_but_last p [] f = refl
+all_but_last p (x ∷ []) f = refl
+all_but_last p (x ∷ (y ∷ ys)) f = all_cons p x (but_last (y ∷ ys)) (all_head p x (y ∷ ys) f) (all_but_last p (y ∷ ys) (all_tail p x (y ∷ ys) f))
+
 -- so the test of 20 does not hold
 pub kept_unbroken : (v : LineState) → Kept v → (c : Call) → broken v c ≡ false
 unfolding line_broken
 kept_unbroken v i call =
-    λ j. (none (is_closing call) j
-    || (not (le-leb (length v.sections) 64 i.few j) || not (run_fits_lem c v.line.present i.present j) || waits v.line.waiting i.waiting j || not (i.start j) || not (i.end j)
-    || not (i.staffs j) || i.placed j))
+    λ j. (unread (is_closing call) (is_lift call) j || (not (le-leb (length ss) 64 i.few j) || not (run_fits_lem c v.line.present i.present j) || waits v.line.waiting i.waiting j || ranges j || i.placed j))
   where
     c : Staffs
     c = v.line.opening.staffs
 
-    none : (t : Bool) → t && misfit v.sections ≡ false
-    none true = λ j. not (le-leb (length v.sections) 64 i.few j) || i.fit j
-    none false = refl
+    ss : List Section
+    ss = v.sections
 
-    waits : (w : Option Outward) → Awaits c (length v.sections) w → waiting_broken w (length v.sections) ≡ false
+    all : all_broken v ≡ false
+    all = (λ j. unsummed v.line.opening (i.sums j) ss) ∙ own_summed v.line.opening ss (λ j. not (le-leb (length ss) 64 i.few j) || i.fit j)
+
+    last : (xs : List Section) → All section_fits xs → last_broken (record { line = v.line; sections = xs }) ≡ false
+    last [] f = refl
+    last (x ∷ xs) f = ap not (all_last section_fits x xs f)
+
+    unread : (s t : Bool) → cond s (all_broken v) (t && last_broken v) ≡ false
+    unread true t = all
+    unread false true = last ss i.fit
+    unread false false = refl
+
+    waits : (w : Option Outward) → Awaits c (length ss) w → waiting_broken w (length ss) ≡ false
     waits None k = refl
-    waits (Some w) k = λ j. not (run_fits_lem c w.run k.0 j) || lt-leb 64 (length v.sections) k.1 j
+    waits (Some w) k = λ j. not (run_fits_lem c w.run k.0 j) || lt-leb 64 (length ss) k.1 j
+
+    sums : sums_fit v.line.sums ≡ true
+    sums = ap sums_fit i.sums ∙ sums_in_range v.line.opening ss i.fit i.few
+
+    ranges : out_of_range v.line ≡ false
+    ranges = λ j. not (i.start j) || not (i.end j) || not (i.staffs j) || not (sums j)
 
 -- where a call was taken since an open line was opened, what is left to see is what waits
 abbrev stray : LineState → Bool
@@ -140,6 +169,7 @@ section_kept v x i o room e n =
       start = i.start;
       end = i.end;
       closed = λ c. rw (length-append v.sections (x ∷ [])) (omega arith);
+      sums = ap (λ (s : SectionSums). sums_plus v.line.opening s x) i.sums ∙ sym (sums_more v.line.opening v.sections x);
       placed = open_placed (with_section v x).line (length (with_section v x).sections) o refl refl;
       number = i.number;
       narrow_sections = all_append (narrow c) v.sections (x ∷ []) i.narrow_sections (all_cons (narrow c) x [] n refl);
@@ -188,12 +218,49 @@ run_kept v number i e =
     go None true both some k room d =
         runs_kept v (Some (record { number = number; run = u })) no_run i running (i.present, leb-false 64 n room, small) (no_run_sized c) (λ j. not (both j))
     go None false both some k room d =
-        section_kept v (one_way number u) i running (leb-false 64 n room) (one_way_fits c number u i.present some) (one_way_narrow c number u small i.present)
+        section_kept v (one_way number u) i running (leb-false 64 n room) (one_way_fits number u (run_fits_lem c u i.present) some) (one_way_narrow c number u small i.present)
     go (Some w) t both some k room d =
         let x = both_ways w.number w.run u in
         let near = not-false (discrepancy_within apart x) d in
-        section_kept v x i running k.1 (both_ways_fits c (terms_by c v.line.opening.class) (row c v.line.opening.class) w.number w.run u k.0 i.present some near)
+        section_kept v x i running k.1 (both_ways_fits (terms_by c v.line.opening.class) (row c v.line.opening.class) w.number w.run u (run_fits_lem c w.run k.0) (run_fits_lem c u i.present) some near)
         (both_ways_narrow c w.number w.run u k.2 k.0 i.present)
+
+-- ---- a lift
+
+-- the last section is taken off, by the tests 21 and 53
+lift_kept : (v : LineState) → Kept v → refusal v lift_section ≡ 0 → Kept (lifted v)
+lift_kept v i e =
+    let test = fails v lift_section e in
+    let open_line : is_open v.line.stage ≡ true = not-false (is_open v.line.stage) (test 21) in
+    let alone = or_r (is_empty v.sections || not (eqb v.line.present.count 0)) (is_return v.line.waiting) (test 53) in
+    let c : Staffs = v.line.opening.staffs in
+    record {
+      few = omega (arith, shorter v.sections, i.few);
+      fit = all_but_last section_fits v.sections i.fit;
+      present = i.present;
+      waiting = awaits c v.line.waiting alone;
+      start = i.start;
+      end = i.end;
+      closed = λ s. absurd (open_not_closed (sym (opened v.line.stage open_line) ∙ s));
+      sums = ap (λ (s : SectionSums). sums_minus v.line.opening s (last_of no_section v.sections)) i.sums ∙ sym (sums_less v.line.opening v.sections);
+      placed = open_placed (lifted v).line (length (but_last v.sections)) open_line refl (λ j. alone j && not (terms_of v.line.opening.class).double);
+      number = i.number;
+      narrow_sections = all_but_last (narrow c) v.sections i.narrow_sections;
+      staffs = i.staffs;
+    }
+  where
+    shorter : (ss : List Section) → length (but_last ss) ≤ length ss
+    shorter [] = omega arith
+    shorter (x ∷ xs) = omega (arith, but_last_length x xs)
+
+    awaits : (c : Staffs) (w : Option Outward) → is_return w ≡ false → Awaits c (length (but_last v.sections)) w
+    awaits c None e = tt
+    awaits c (Some w) e = no_true (sym e)
+
+    opened : (s : Stage) → is_open s ≡ true → s ≡ Open
+    opened Fresh e = no_true e
+    opened Open e = refl
+    opened Closed e = no_true e
 
 -- ---- a call
 
@@ -217,6 +284,7 @@ begun_kept o number start staffs =
       start = start;
       end = refl;
       closed = λ c. absurd (open_not_closed c);
+      sums = refl;
       placed = λ j. nothing (not o.touched) j || false || false;
       number = number;
       narrow_sections = refl;
@@ -270,27 +338,7 @@ taken_kept v (collimation x) i e =
 taken_kept v (constants first second) i e =
     begun_kept (measured v.line.opening first second) i.number i.start
     (given_fit first second (not-false (constants_in_range first second) (fails v (constants first second) e 42)))
-
--- ---- no call shortens the list of sections: one that begins a line finds none
-
-run_longer : (v : LineState) (number : ℤ) (w : Option Outward) (t : Bool)
-    → length v.sections
-    ≤ length (outward_or_return w
-    (cond t (record { line = with_runs v.line (Some (record { number = number; run = v.line.present })) no_run; sections = v.sections }) (with_section v (one_way number v.line.present)))
-    (λ outward run. with_section v (both_ways outward run v.line.present))).sections
-run_longer v number None true = le_refl (length v.sections)
-run_longer v number None false = rw (length-append v.sections (one_way number v.line.present ∷ [])) (omega arith)
-run_longer v number (Some w) t = rw (length-append v.sections (both_ways w.number w.run v.line.present ∷ [])) (omega arith)
-
-pub no_shorter : (v : LineState) (c : Call) → Kept v → refusal v c ≡ 0 → length v.sections ≤ length (taken v c).sections
-no_shorter v (open_line order instrument number height) i e =
-    omega (arith, ap length (fresh_none v.line v.sections (kept_unbroken v i drop_run) (fails v (open_line order instrument number height) e 21)))
-no_shorter v (end_run number) i e = run_longer v number v.line.waiting (terms_of v.line.opening.class).double
-no_shorter v (open_spur order instrument number height) i e =
-    omega (arith, ap length (fresh_none v.line v.sections (kept_unbroken v i drop_run) (fails v (open_spur order instrument number height) e 21)))
-no_shorter v (constants first second) i e =
-    omega (arith, ap length (untouched_none v.line v.sections (kept_unbroken v i drop_run) (fails v (constants first second) e 43)))
-no_shorter v c i e = le_refl (length v.sections)
+taken_kept v lift_section i e = lift_kept v i e
 
 -- ---- a list of calls
 
@@ -313,6 +361,7 @@ fresh_kept =
       start = refl;
       end = refl;
       closed = λ c. absurd (fresh_not_closed c);
+      sums = refl;
       placed = refl;
       number = omega arith;
       narrow_sections = refl;

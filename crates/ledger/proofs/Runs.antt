@@ -1,23 +1,20 @@
 -- How large a run and a section get: a taken station keeps a run's sums within its count, so runs and the sections made of them fit, in 64 bits and in
 -- the report's fields.
-use mathlib.Core.Path.{◌≡◌, ap, subst}
-use mathlib.Core.Bool.{Bool, true, cond, ◌&&◌}
+use mathlib.Core.Path.{◌≡◌, ap}
+use mathlib.Core.Bool.{Bool, true, ◌&&◌}
 use mathlib.Core.List.{List}
-use Prim.Native.Nat.{ℕ, ◌+◌, ◌*◌, ◌≤◌, ◌<◌}
-use native.Mathlib.Decide.{dec_le}
-use native.Mathlib.Nat.{le_trans, mul-le-mul, mul-le-mul_left, mul-le-mul_right}
+use Prim.Native.Nat.{ℕ, ◌*◌, ◌≤◌, ◌<◌}
+use native.Mathlib.Nat.{le_trans, mul-le-mul_left}
 use native.Mathlib.Omega.{arith}
 use borrow.Author.Tests.{le-leb, leb-false}
 use lib.IntN.{ℤ, pos, nat_abs, ◌+ℤ◌, ◌-ℤ◌, ◌*ℤ◌}
 use lib.Signed.{◌≤ℤ◌, ◌<ℤ◌, lt_z}
 use Rattle.numbers.specs.Numbers.{within}
-use Rattle.numbers.proofs.Tests.{by_test, and_l, and_r, not-false}
+use Rattle.numbers.proofs.Tests.{and_l, and_r, not-false}
 use Rattle.numbers.proofs.Ring.{ringℤ}
 use Rattle.numbers.proofs.Tables.{first_none}
-use Rattle.numbers.proofs.Parts.{ints, pos_part, parts_add, parts_sub, parts_times, parts_abs, test_lt}
-use Rattle.numbers.proofs.Sizes.{abs_add, abs_sub, abs_mul, square_abs, within_size, within_true, between_true}
-use Rattle.roots.specs.Limit.{is_within}
-use Rattle.roots.proofs.LimitLaws.{within_le}
+use Rattle.numbers.proofs.Parts.{ints, parts_add, parts_sub, parts_abs, test_lt}
+use Rattle.numbers.proofs.Sizes.{abs_add, abs_sub, abs_mul, within_size, within_true, between_true}
 use Rattle.station.specs.declared.Order.{Order}
 use Rattle.station.specs.declared.Order.TheVariants.{Third, Fourth}
 use Rattle.station.specs.declared.Instrument.{Instrument}
@@ -30,15 +27,11 @@ use Rattle.station.specs.declared.Station.{Station}
 use Rattle.station.specs.Station.{station_of, scale_of, constant_of, in_parts, figures_of, limits_of, sight, face_difference, twice_height, threads_in_order, reading_tests, reading_refusal}
 use Rattle.station.proofs.Sizes.{read, scale_size}
 use Rattle.adjust.specs.declared.Section.{Section}
-use Rattle.adjust.specs.declared.terms.Terms.{Terms}
-use Rattle.adjust.specs.Sizes.{most_q, most_r, most_d}
-use Rattle.adjust.specs.Sections.{section_fits}
 use Rattle.adjust.specs.Terms.{order_of}
-use Rattle.adjust.proofs.Classes.{Row}
 use Rattle.rules.specs.declared.Run.{Run}
 use Rattle.rules.specs.LineState.{LineState, no_run, with_station, one_way, both_ways, run_fits, most_g, most_s, most_difference}
 use Rattle.rules.specs.declared.call.Call.TheVariants.{Station as station}
-use Rattle.rules.specs.Rules.{state_tests, counted_length, discrepancy_within, refusal}
+use Rattle.rules.specs.Rules.{state_tests, refusal}
 use Rattle.rules.proofs.Tables.{fails}
 
 -- a run of stations whose figures go by the constants of the staffs c
@@ -165,7 +158,7 @@ station_sized v kb kf readings e h =
     l : Limits
     l = limits_of order instrument c
 
--- ---- runs and sections fit
+-- ---- runs fit
 
 -- G of 200 stations
 run_height : (c : Staffs) (u : Run) → Sized c u → nat_abs u.height ≤ 2401200 * scale_of c
@@ -181,50 +174,6 @@ run_fits_lem c u h =
       between_true {low = pos u.count} {x = u.sights} {high = pos most_s} h.low (omega (ints, h.high, h.count)),
       within_true u.difference most_difference (omega (arith, h.difference)),
     )
-
-section_fits_lem : (x : Section) → nat_abs x.height ≤ most_q → pos 1 ≤ℤ x.distance → x.distance ≤ℤ pos most_r → nat_abs x.discrepancy ≤ most_d
-    → section_fits x ≡ true
-section_fits_lem x height low high discrepancy =
-    rw (within_true x.height most_q height, between_true low high, within_true x.discrepancy most_d discrepancy)
-
-pub one_way_fits : (c : Staffs) (number : ℤ) (u : Run) → Sized c u → 0 < u.count → section_fits (one_way number u) ≡ true
-one_way_fits c number u h k =
-    section_fits_lem (one_way number u) (omega (arith, run_height c u h, scale_size c, abs_mul (pos 2) u.height))
-    (omega (ints, h.low, parts_times 2 u.sights)) (omega (ints, h.high, h.count, parts_times 2 u.sights)) (omega arith)
-
--- a root limit of a length, as a bound
-pub root_size : (a : ℕ) (x : ℤ) (b : ℕ) (l : ℤ) (k : ℕ) → 0 < a → is_within a x b l ≡ true → (pos b *ℤ l) ≤ℤ pos (k * k) → nat_abs x ≤ k
-root_size a x b l k some e h = go (dec_le (nat_abs x) k)
-  where
-    square : (pos a *ℤ pos (nat_abs x * nat_abs x)) ≤ℤ (pos b *ℤ l)
-    square = subst (λ (z : ℤ). (pos a *ℤ z) ≤ℤ (pos b *ℤ l)) (square_abs x) (within_le a x b l e)
-
-    go : Dec (nat_abs x ≤ k) → nat_abs x ≤ k
-    go (yes p) = p
-    go (no f) =
-        let above : k + 1 ≤ nat_abs x = omega arith in
-        omega (ints, square, mul-le-mul above above, mul-le-mul_right (nat_abs x * nat_abs x) some)
-
-pub both_ways_fits : (c : Staffs) (t : Terms) → Row t → (number : ℤ) (out back : Run) → Sized c out → Sized c back → 0 < back.count
-    → discrepancy_within t.apart (both_ways number out back) ≡ true → section_fits (both_ways number out back) ≡ true
-both_ways_fits c t r number out back h k few e =
-    section_fits_lem (both_ways number out back) (omega (arith, run_height c out h, run_height c back k, scale_size c, abs_sub out.height back.height)) low high
-    (root_size t.apart.a (out.height +ℤ back.height) t.apart.b (counted_length (out.sights +ℤ back.sights)) most_d r.some e within_most)
-  where
-    low : pos 1 ≤ℤ (out.sights +ℤ back.sights)
-    low = omega (ints, h.low, k.low, parts_add out.sights back.sights)
-
-    high : (out.sights +ℤ back.sights) ≤ℤ pos most_r
-    high = omega (ints, h.high, h.count, k.high, k.count, parts_add out.sights back.sights)
-
-    counted_high : (l : ℤ) → l ≤ℤ pos most_r → counted_length l ≤ℤ pos most_r
-    counted_high l h = by_test (lt_z l (pos 2000)) (λ t. cond t (pos 2000) l ≤ℤ pos most_r) (λ t. omega ints) (λ t. h)
-
-    within_most : (pos t.apart.b *ℤ counted_length (out.sights +ℤ back.sights)) ≤ℤ pos (most_d * most_d)
-    within_most =
-        let l : ℤ = counted_length (out.sights +ℤ back.sights) in
-        let short : pos_part l ≤ most_r = omega (ints, counted_high (out.sights +ℤ back.sights) high, parts_abs l) in
-        omega (ints, r.apart, mul-le-mul_left t.apart.b short, parts_times t.apart.b l)
 
 -- ---- sections are narrow
 

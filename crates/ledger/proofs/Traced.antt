@@ -6,7 +6,7 @@ use mathlib.Core.List.{List, [], ◌∷◌, ◌++◌}
 use Prim.Native.Nat.{ℕ, ◌+◌, ◌≤◌}
 use native.Mathlib.Omega.{arith}
 use lib.Dec.{eqb, eqb→eq}
-use lib.ListN.{length, take}
+use lib.ListN.{length, take, length-map}
 use lib.IntN.{ℤ, pos, ◌*ℤ◌}
 use Rattle.std.specs.Prelude.{Ok, Err}
 use Rattle.std.specs.declared.result.Result.{Result}
@@ -23,7 +23,8 @@ use Rattle.adjust.specs.declared.LineFigures.{LineFigures}
 use Rattle.adjust.specs.Line.{points, line_frame, Closing, closing}
 use Rattle.adjust.specs.Frames.{no_point, adjusted_of}
 use Rattle.adjust.proofs.Lists.{points_length}
-use Rattle.adjust.proofs.Holding.{holding_again}
+use Rattle.adjust.specs.Kept.{sums_of}
+use Rattle.adjust.proofs.Holding.{sections_count, holding_again}
 use Rattle.rules.specs.declared.Book.{Book}
 use Rattle.book.specs.declared.Outcome.{Outcome}
 use Rattle.rules.specs.LineState.{LineState, state_of, book_with}
@@ -35,11 +36,11 @@ use Rattle.rules.proofs.Tables.{tests, tables}
 use Rattle.book.specs.Calls.{fresh_book, book_after, Answers, closing_of, closed_by, Closes, gave_of}
 use Rattle.book.proofs.Joined.{outcome_made, closing_made}
 use Rattle.ledger.specs.Plain as Plain
-use Rattle.ledger.specs.Plain.{Reading, fresh_reading, next, taken, refusal, after, refusals, given, closings, plain_state, book_of}
+use Rattle.ledger.specs.Plain.{Reading, fresh_reading, next, taken, refusal, after, refusals, given, closings, section_of, plain_state, book_of}
 use Rattle.ledger.specs.Claims.{taken_only}
 use Rattle.ledger.specs.Trace.{Ensures, CloseEnsures, FiguresEnsures, MadeOf, by_value, in_place, had_of, Trace, done, call, close, made, made_closing, EveryTrace, EveryListMade, StruckOutOfBook}
 use Rattle.ledger.proofs.Follows.{follows}
-use Rattle.ledger.proofs.Kept.{Kept, next_kept, fresh_kept, calls_kept, same_refusal, no_shorter}
+use Rattle.ledger.proofs.Kept.{Kept, next_kept, fresh_kept, calls_kept, same_refusal}
 use Rattle.ledger.proofs.Every.{closed_once, same_figures, closes_line, either, none_given, struck_out, all_taken}
 use Rattle.ledger.proofs.Again.{held, fresh_holds, ok_of, figures_again}
 
@@ -60,7 +61,7 @@ module _ (r : Reading) (k : Kept (plain_state r)) (c : Call) {b : Book} (p : b �
       again e =
           (λ i. record {
             line = (Rules.taken (plain_state r) c).line;
-            sections = holding_again fresh_book.sections (plain_state r).sections (Rules.taken (plain_state r) c).sections (no_shorter (plain_state r) c k e) i;
+            sections = holding_again (plain_state r).sections (Rules.taken (plain_state r) c).sections k.few i;
           })
           ∙ ap (book_with fresh_book) (sym (follows r c))
 
@@ -190,6 +191,11 @@ every_trace b e calls ns gs f t =
       given = s.gave;
       holds = h;
       book = s.book;
+      totals =
+          record {
+            sums = ap (λ (v : LineState). v.line.sums) h ∙ sym (ap (λ (v : LineState). sums_of v.line.opening v.sections) h);
+            count = sym (sections_count e.sections) ∙ ap (λ (v : LineState). length v.sections) h ∙ length-map r.sections (section_of r.opening.staffs);
+          };
       never_20 = subst (λ (l : List ℕ). any_of (λ n. eqb n 20) l ≡ false) (sym s.numbers) (never_20 fresh_reading calls);
       closed = λ c. closed_once calls s.gave (stage ∙ c);
       again =

@@ -1,5 +1,5 @@
--- What is claimed of every list of calls from a fresh book: of the closing taken in it (demand 3 of document 01; for spurs document 02, W-202), of the order of refusals, and of refused
--- and dropped calls, and of the heights of runs by measured constants (document 02, W-203).
+-- What is claimed of every list of calls from a fresh book: of the closing taken in it (demand 3 of document 01; for spurs document 02, W-202), of the order of refusals, of refused
+-- and dropped calls and lifted sections (document 02, W-210), and of the heights of runs by measured constants (document 02, W-203).
 use Rattle.std.specs.Prelude.{◌≡◌, Bool, true, false, cond, ◌&&◌, List, [], ◌∷◌, ◌++◌, map, ℕ, ◌%◌, length, eqb, ℤ, pos, nat_abs, neg_ℤ, ◌*ℤ◌, ◌≤ℤ◌, None}
 use Rattle.numbers.specs.Numbers.{eq_z}
 use Rattle.numbers.specs.Tables.{Lowest}
@@ -13,9 +13,9 @@ use Rattle.adjust.specs.Claims.{Near, corrections, last_height, raw_heights}
 use Rattle.rules.specs.declared.Stage.TheVariants.{Open, Closed}
 use Rattle.rules.specs.LineState.{LineState}
 use Rattle.rules.specs.declared.call.Call.{Call}
-use Rattle.rules.specs.declared.call.Call.TheVariants.{DropRun as drop_run, DropSection as drop_section, CloseLine as close_line, CloseSpur as close_spur}
+use Rattle.rules.specs.declared.call.Call.TheVariants.{DropRun as drop_run, DropSection as drop_section, CloseLine as close_line, CloseSpur as close_spur, LiftSection as lift_section}
 use Rattle.rules.specs.Rules.{book_tests, book_refusal, rank}
-use Rattle.ledger.specs.Plain.{Reading, fresh_reading, after, next, taken, refusal, plain_state, run_of, with_lists, closings}
+use Rattle.ledger.specs.Plain.{Reading, Levelled, fresh_reading, after, next, taken, refusal, plain_state, run_of, with_lists, closings}
 
 -- ---- a closing
 
@@ -109,6 +109,16 @@ abbrev pub SectionDropped : Type 0
 SectionDropped =
     (r : Reading) (calls : List Call) → (after r calls).stage ≡ Open → (after r calls).sections ≡ r.sections
     → after r (calls ++ (drop_section ∷ [])) ≡ with_lists (after r calls) r.sections None []
+
+-- ---- lifted sections
+
+-- Calls that level one section more than stood in r, whichever they are and whether taken or refused, and leave nothing waiting and nothing present: a lift after them leaves the
+-- sections that r had. So the stations of a section that is lifted stand in no list
+abbrev pub SectionLifted : Type 0
+SectionLifted =
+    (r : Reading) (calls : List Call) (x : Levelled) → (after r calls).stage ≡ Open → (after r calls).sections ≡ r.sections ++ (x ∷ [])
+    → (after r calls).waiting ≡ None → (after r calls).present ≡ []
+    → after r (calls ++ (lift_section ∷ [])) ≡ with_lists (after r calls) r.sections None []
 
 -- ---- measured constants
 

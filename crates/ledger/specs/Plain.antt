@@ -2,7 +2,7 @@
 -- Its 'standing list' is what a `Reading` keeps: the finished sections, the outward list that waits and the list of the present run.
 use Rattle.std.specs.Prelude.{cond, List, [], ◌∷◌, ◌++◌, map, ℕ, length, eqb, ℤ, pos, Some, None}
 use Rattle.std.specs.declared.option.Option.{Option}
-use Rattle.numbers.specs.Numbers.{sum, last_of}
+use Rattle.numbers.specs.Numbers.{sum, last_of, but_last}
 use Rattle.adjust.specs.declared.terms.Class.TheVariants.{Spur}
 use Rattle.station.specs.declared.Staffs.{Staffs}
 use Rattle.station.specs.declared.Station.{Station}
@@ -11,6 +11,7 @@ use Rattle.adjust.specs.declared.Opening.{Opening}
 use Rattle.adjust.specs.declared.Section.{Section}
 use Rattle.adjust.specs.Terms.{terms_of}
 use Rattle.adjust.specs.Line.{Closing, closing}
+use Rattle.adjust.specs.Kept.{sums_of}
 use Rattle.rules.specs.declared.Stage.{Stage}
 use Rattle.rules.specs.declared.Stage.TheVariants.{Fresh, Open, Closed}
 use Rattle.rules.specs.declared.Run.{Run}
@@ -20,7 +21,7 @@ use Rattle.rules.specs.LineState.{LineState, book_with, one_way, both_ways}
 use Rattle.book.specs.Calls.{fresh_book}
 use Rattle.rules.specs.Rules as Rules
 use Rattle.rules.specs.declared.call.Call.{Call}
-use Rattle.rules.specs.declared.call.Call.TheVariants.{OpenLine as open_line, Station as station, EndRun as end_run, DropRun as drop_run, DropSection as drop_section, CloseLine as close_line, OpenSpur as open_spur, CloseSpur as close_spur, Collimation as collimation, Constants as constants}
+use Rattle.rules.specs.declared.call.Call.TheVariants.{OpenLine as open_line, Station as station, EndRun as end_run, DropRun as drop_run, DropSection as drop_section, CloseLine as close_line, OpenSpur as open_spur, CloseSpur as close_spur, Collimation as collimation, Constants as constants, LiftSection as lift_section}
 use Rattle.rules.specs.Rules.{class_of, opening_of, unopened, touched, collimated, measured, is_closing}
 
 -- a finished section: its number, its outward list and, where it was levelled both ways, its return list
@@ -70,16 +71,18 @@ waiting_of c (Some w) = Some (record { number = w.number; run = run_of c w.outwa
 abbrev pub plain_state : Reading → LineState
 plain_state r =
     let c : Staffs = r.opening.staffs in
+    let ss : List Section = map (section_of c) r.sections in
     record {
       line =
           record {
             stage = r.stage;
             opening = r.opening;
             end = r.end;
+            sums = sums_of r.opening ss;
             waiting = waiting_of c r.waiting;
             present = run_of c r.present;
           };
-      sections = map (section_of c) r.sections;
+      sections = ss;
     }
 
 -- the book that holds a reading's counts and sums, and nothing else
@@ -133,6 +136,8 @@ taken r (close_spur number) = closed_on r (pos 0)
 taken r (collimation x) = record r { opening = collimated r.opening }
 -- these are the constants of every station to come: none was taken
 taken r (constants first second) = opened (measured r.opening first second)
+-- the stations of the last section stand no more
+taken r lift_section = with_lists r (but_last r.sections) r.waiting r.present
 
 -- ---- a list of calls
 

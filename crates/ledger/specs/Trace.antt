@@ -1,19 +1,21 @@
 -- A book's calls as a caller makes them: from a fresh book, each on the book that the call before it left, by its own function or by one that makes any call: of a book by value
 -- (`take`) or of a book in its place (`enter`). Of each no more is known than its function's contract ensures. `Learnt` is that contract, read from the function itself.
-use Rattle.std.specs.Prelude.{◌≡◌, true, false, not, cond, List, [], ◌∷◌, ◌++◌, ℕ, eqb, Ok}
+use Rattle.std.specs.Prelude.{◌≡◌, true, false, not, cond, List, [], ◌∷◌, ◌++◌, ℕ, eqb, length, Ok}
 use Rattle.std.specs.Borrow.{Bor, MutBor}
 use Rattle.numbers.specs.Numbers.{any_of}
 use Rattle.records.specs.Refusals.{number_of}
 use Rattle.records.specs.declared.Refusal.{Refusal}
 use Rattle.std.specs.declared.result.Result.{Result}
 use Rattle.adjust.specs.declared.LineFigures.{LineFigures}
+use Rattle.adjust.specs.Sections.{sections_of}
 use Rattle.adjust.specs.Line.{Closing}
+use Rattle.adjust.specs.Kept.{sums_of}
 use Rattle.rules.specs.declared.Stage.TheVariants.{Closed}
 use Rattle.rules.specs.declared.Book.{Book}
 use Rattle.book.specs.declared.Outcome.{Outcome}
 use Rattle.rules.specs.LineState.{state_of}
 use Rattle.rules.specs.declared.call.Call.{Call}
-use Rattle.rules.specs.declared.call.Call.TheVariants.{OpenLine as open_line, Station as station, EndRun as end_run, DropRun as drop_run, DropSection as drop_section, CloseLine as close_line, OpenSpur as open_spur, CloseSpur as close_spur, Collimation as collimation, Constants as constants}
+use Rattle.rules.specs.declared.call.Call.TheVariants.{OpenLine as open_line, Station as station, EndRun as end_run, DropRun as drop_run, DropSection as drop_section, CloseLine as close_line, OpenSpur as open_spur, CloseSpur as close_spur, Collimation as collimation, Constants as constants, LiftSection as lift_section}
 use Rattle.rules.specs.Rules.{is_closing}
 use Rattle.adjust.specs.Frames.{adjusted_of}
 use Rattle.book.specs.Calls.{gave_of}
@@ -28,10 +30,11 @@ use Rattle.book.proofs.calls.open_spur.Reads as open_spur_reads
 use Rattle.book.proofs.calls.close_spur.Reads as close_spur_reads
 use Rattle.book.proofs.calls.collimation.Reads as collimation_reads
 use Rattle.book.proofs.calls.constants.Reads as constants_reads
+use Rattle.book.proofs.calls.lift_section.Reads as lift_section_reads
 use Rattle.book.proofs.calls.figures_of.Reads as figures_of_reads
 use Rattle.book.proofs.calls.take.Reads as take_reads
 use Rattle.book.proofs.calls.enter.Reads as enter_reads
-use Rattle.ledger.specs.Plain.{fresh_reading, after, refusals, closings, plain_state, book_of}
+use Rattle.ledger.specs.Plain.{Reading, fresh_reading, after, refusals, closings, plain_state, book_of}
 use Rattle.ledger.specs.Claims.{ClosedOnce, taken_only}
 
 abbrev pub FreshEnsures : Book → Type 0
@@ -51,6 +54,7 @@ Ensures b (open_spur order instrument number height) r =
 Ensures b (close_spur number) r = ⊥
 Ensures b (collimation x) r = collimation_reads.Learnt tt (b, (x, tt)) r (b, (x, tt))
 Ensures b (constants first second) r = constants_reads.Learnt tt (b, (first, (second, tt))) r (b, (first, (second, tt)))
+Ensures b lift_section r = lift_section_reads.Learnt tt (b, tt) r (b, tt)
 
 -- and of a closing
 abbrev pub CloseEnsures : Book → Call → Outcome LineFigures → Type 0
@@ -64,6 +68,7 @@ CloseEnsures b (open_spur order instrument number height) r = ⊥
 CloseEnsures b (close_spur number) r = close_spur_reads.Learnt tt (b, (number, tt)) r (b, (number, tt))
 CloseEnsures b (collimation x) r = ⊥
 CloseEnsures b (constants first second) r = ⊥
+CloseEnsures b lift_section r = ⊥
 
 abbrev pub FiguresEnsures : Book → Result LineFigures Refusal → Type 0
 FiguresEnsures b f = figures_of_reads.Learnt tt (b, tt) f (b, tt)
@@ -93,6 +98,11 @@ pub data Trace : Book → List Call → List ℕ → List Closing → Book → T
 
 -- ---- the claim about the whole list
 
+-- the sums that a book keeps are those of the sections that it holds, and n is their count in the standing list (document 02, W-210)
+pub record KeptTotals (r : Reading) (e : Book) : Type 0 where
+  pub sums : e.line.sums ≡ sums_of e.line.opening (sections_of e.sections)
+  pub count : e.sections.count ≡ length r.sections
+
 pub record SoundTrace (calls : List Call) (ns : List ℕ) (gs : List Closing) (e : Book) : Type 0 where
   -- the plain reading answers the same numbers, and its closings give the same
   pub numbers : ns ≡ refusals fresh_reading calls
@@ -100,6 +110,7 @@ pub record SoundTrace (calls : List Call) (ns : List ℕ) (gs : List Closing) (e
   -- the book holds the standing list's counts and sums, and nothing else
   pub holds : state_of e ≡ plain_state (after fresh_reading calls)
   pub book : e ≡ book_of (after fresh_reading calls)
+  pub totals : KeptTotals (after fresh_reading calls) e
   -- no call found the book broken
   pub never_20 : any_of (λ n. eqb n 20) ns ≡ false
   -- a line that the calls left closed was closed once and soundly

@@ -1,4 +1,5 @@
--- The starred lines of document 01, 'Checked by hand', as one fact that the rules compute; a spur, short sections, the collimation test and measured constants (document 02, W-202, W-201, W-204 and W-203) as others.
+-- The starred lines of document 01, 'Checked by hand', as one fact that the rules compute; a spur, short sections, the collimation test, measured constants and a lift (document 02, W-202,
+-- W-201, W-204, W-203 and W-210) as others.
 use Rattle.std.specs.Prelude.{◌≡◌, refl, List, [], ◌∷◌, ◌++◌, map, ℕ, ◌+◌, ◌-◌, ℤ, pos, neg_ℤ, ◌*ℤ◌}
 use Rattle.roots.specs.Round.{round_even}
 use Rattle.roots.specs.Limit.{is_within}
@@ -7,12 +8,13 @@ use Rattle.station.specs.declared.Staffs.TheVariants.{Nominal, Measured}
 use Rattle.station.specs.declared.Station.{Station}
 use Rattle.station.specs.Station.{station_of, sight_difference, face_difference, twice_height}
 use Rattle.adjust.specs.declared.Section.{Section}
+use Rattle.adjust.specs.declared.SectionSums.{SectionSums}
 use Rattle.adjust.specs.declared.Point.{Point}
 use Rattle.adjust.specs.declared.Frame.{Frame}
 use Rattle.adjust.specs.Line.{quarters, wholes, frame_of, exact_top, closure, Closing, accidental}
 use Rattle.rules.specs.LineState.{LineState, outward_or_return, both_ways}
 use Rattle.rules.specs.declared.call.Call.{Call}
-use Rattle.rules.specs.declared.call.Call.TheVariants.{OpenLine as open_line, Station as station, EndRun as end_run, CloseLine as close_line, OpenSpur as open_spur, CloseSpur as close_spur, Collimation as collimation, DropRun as drop_run, DropSection as drop_section, Constants as constants}
+use Rattle.rules.specs.declared.call.Call.TheVariants.{OpenLine as open_line, Station as station, EndRun as end_run, CloseLine as close_line, OpenSpur as open_spur, CloseSpur as close_spur, Collimation as collimation, DropRun as drop_run, DropSection as drop_section, Constants as constants, LiftSection as lift_section}
 use Rattle.ledger.specs.Plain.{fresh_reading, after, refusals, plain_state, run_of, closings}
 
 -- ---- the stations of case A
@@ -346,4 +348,66 @@ measured_worked =
       place_drop_section = refl;
       place_closed = refl;
       place_refused = refl;
+    }
+
+-- ---- a lift
+
+-- A's section 1, and A's section 2 after it on the benchmark n
+abbrev section1 : List Call
+section1 = a1 ∷ a2 ∷ end_run (pos 2) ∷ []
+
+abbrev section2 : ℕ → List Call
+section2 n = a3 ∷ a4 ∷ end_run (pos n) ∷ []
+
+-- ΣQ, L and T that the standing list keeps after these calls
+abbrev kept : List Call → List ℤ
+kept calls = let s : SectionSums = (plain_state (after fresh_reading calls)).line.sums in s.height ∷ s.distance ∷ s.accidental ∷ []
+
+-- at third order, after a section out and back, of R 2564 and D 8
+abbrev third_kept : List Call → List ℤ
+third_kept calls = kept (out_and_back 6067 ++ calls)
+
+pub record LiftWorked : Type 0 where
+  -- no section, a run present, a run that waits; on a fresh and on a closed book
+  pub fresh : refusals fresh_reading (lift_section ∷ []) ≡ 21 ∷ []
+  pub none : refusals fresh_reading (open4 10000 ∷ lift_section ∷ tested ∷ lift_section ∷ []) ≡ 0 ∷ 53 ∷ 0 ∷ 53 ∷ []
+  pub present : refusals (after fresh_reading (open4 10000 ∷ tested ∷ section1)) (a3 ∷ lift_section ∷ drop_run ∷ lift_section ∷ lift_section ∷ []) ≡ 0 ∷ 53 ∷ 0 ∷ 0 ∷ 53 ∷ []
+  pub waits : refusals (after fresh_reading (out_and_back 6067)) (a1 ∷ a2 ∷ end_run (pos 3) ∷ lift_section ∷ drop_section ∷ lift_section ∷ []) ≡ 0 ∷ 0 ∷ 0 ∷ 53 ∷ 0 ∷ 0 ∷ []
+  pub closed : refusals (after fresh_reading (one 10000 10651)) (lift_section ∷ []) ≡ 21 ∷ []
+  -- a lifted number is free again; a loop that was shut is open again, and its number free once more
+  pub free : refusals (after fresh_reading (open4 10000 ∷ tested ∷ section1)) (a3 ∷ a4 ∷ end_run (pos 2) ∷ drop_run ∷ lift_section ∷ section1) ≡ 0 ∷ 0 ∷ 30 ∷ 0 ∷ 0 ∷ 0 ∷ 0 ∷ 0 ∷ []
+  pub loop : refusals (after fresh_reading (open4 10000 ∷ tested ∷ section1 ++ section2 1)) (a1 ∷ lift_section ∷ section2 1) ≡ 21 ∷ 0 ∷ 0 ∷ 0 ∷ 0 ∷ []
+  -- the test of the level and the constants stay in force; a lift is a taken call, so that constants are out of place after all sections are lifted
+  pub tested_stays : refusals (after fresh_reading (open4 10000 ∷ tested ∷ section1)) (lift_section ∷ tested ∷ a1 ∷ []) ≡ 0 ∷ 45 ∷ 0 ∷ []
+  pub constants_stay : (plain_state (after fresh_reading (back_measured 6067 ++ (lift_section ∷ [])))).line.opening.staffs ≡ Measured 46875 47865
+  pub place : refusals (after fresh_reading (open4 10000 ∷ tested ∷ section1)) (lift_section ∷ given ∷ []) ≡ 0 ∷ 43 ∷ []
+  -- the sums of two sections, of the first alone after the second is lifted, and of both again; of none when both are
+  pub sums_two : kept (open4 10000 ∷ tested ∷ section1 ++ section2 3) ≡ pos 4832 ∷ pos 4164 ∷ pos 0 ∷ []
+  pub sums_one : kept (open4 10000 ∷ tested ∷ section1 ++ section2 3 ++ (lift_section ∷ [])) ≡ pos 2632 ∷ pos 2564 ∷ pos 0 ∷ []
+  pub sums_again : kept (open4 10000 ∷ tested ∷ section1 ++ section2 3 ++ (lift_section ∷ section2 3)) ≡ pos 4832 ∷ pos 4164 ∷ pos 0 ∷ []
+  pub sums_none : kept (open4 10000 ∷ tested ∷ section1 ++ section2 3 ++ (lift_section ∷ lift_section ∷ [])) ≡ pos 0 ∷ pos 0 ∷ pos 0 ∷ []
+  -- and T
+  pub t_one : third_kept [] ≡ pos 2624 ∷ pos 2564 ∷ pos 12480 ∷ []
+  pub t_none : third_kept (lift_section ∷ []) ≡ pos 0 ∷ pos 0 ∷ pos 0 ∷ []
+
+pub lift_worked : LiftWorked
+unfolding round_even is_within within_angle
+lift_worked =
+    record {
+      fresh = refl;
+      none = refl;
+      present = refl;
+      waits = refl;
+      closed = refl;
+      free = refl;
+      loop = refl;
+      tested_stays = refl;
+      constants_stay = refl;
+      place = refl;
+      sums_two = refl;
+      sums_one = refl;
+      sums_again = refl;
+      sums_none = refl;
+      t_one = refl;
+      t_none = refl;
     }
