@@ -12,8 +12,8 @@ use crate::station::{accumulated_d, sum_of_heights, sum_of_sights};
 
 /// How a line is levelled: class and instrument, usual sight (dm), usual height
 /// of a station (half mm), whether all sights are the same, whether D is set for
-/// a verdict at its limit, whether the constants are measured, and one call in how many goes
-/// wrong (0: none).
+/// a verdict at its limit, whether the constants are measured, one section in how many is lifted
+/// and levelled anew (0: none), and one call in how many goes wrong (0: none).
 #[derive(Clone, Debug)]
 pub struct Style {
     pub class: Class,
@@ -23,6 +23,7 @@ pub struct Style {
     pub equal: bool,
     pub verdict: bool,
     pub measured: bool,
+    pub lifts: u64,
     pub trouble: u64,
 }
 

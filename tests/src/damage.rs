@@ -37,10 +37,10 @@ const FIELDS: [&[u8; FIELD]; 24] = [
 const BYTES: [u8; 14] = *b" \n\r\t-+0159AZ\0\xff";
 
 /// Lines to be put in between.
-const WORDS: [&str; 11] = ["", "LEVEL BOOK", "PNT", "LIN", "SPR", "FIN", "ANG", "KON", "KON   46870   47870", "DRR", "DRS"];
+const WORDS: [&str; 12] = ["", "LEVEL BOOK", "PNT", "LIN", "SPR", "FIN", "ANG", "KON", "KON   46870   47870", "DRR", "DRS", "LFT"];
 
 /// Tags to be written over others.
-const TAGS: [&[u8; TAG]; 10] = [b"LIN", b"STA", b"RUN", b"DRR", b"DRS", b"END", b"SPR", b"FIN", b"ANG", b"KON"];
+const TAGS: [&[u8; TAG]; 11] = [b"LIN", b"STA", b"RUN", b"DRR", b"DRS", b"END", b"SPR", b"FIN", b"ANG", b"KON", b"LFT"];
 
 /// A text book with a random list of calls, one in two damaged.
 pub fn text_book(random: &mut Random) -> Vec<u8> {

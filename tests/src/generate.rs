@@ -1,5 +1,6 @@
 //! Lists of calls that are worth comparing: lines of both orders and spurs, with both
-//! instruments, one in three with measured constants, that reach the limits of documents 01 and 02, and changed lists.
+//! instruments, one in three with measured constants, some with sections lifted and levelled anew, that reach the limits of documents 01 and 02, and
+//! changed lists.
 
 use crate::mutate::mutate;
 use crate::caller::{Caller, Style};
@@ -102,6 +103,11 @@ fn style(random: &mut Random, kind: Kind) -> Style {
         Kind::Many | Kind::Verdict => *random.pick(&[0, 40, 200]),
         _ => *random.pick(&[0, 0, 4, 8, 8, 16, 16, 40]),
     };
+    let lifts = match kind {
+        Kind::Deep | Kind::Steep => 0,
+        Kind::Many | Kind::Verdict => *random.pick(&[0, 0, 20, 100]),
+        _ => *random.pick(&[0, 0, 0, 3, 10]),
+    };
     Style {
         class,
         instrument,
@@ -110,6 +116,7 @@ fn style(random: &mut Random, kind: Kind) -> Style {
         equal: kind != Kind::Verdict && (sight == SHORTEST_SIGHT || random.chance(1, 4)),
         verdict: kind == Kind::Verdict,
         measured: random.chance(1, 3),
+        lifts,
         trouble,
     }
 }
@@ -140,7 +147,7 @@ fn usual_line(caller: &mut Caller, is_loop: bool) {
             number = caller.opened().start;
             count = caller.stations_to_shut(count);
         }
-        if !caller.section(number, count, shuts) && caller.random.chance(1, 2) {
+        if !caller.lasting_section(number, count, shuts) && caller.random.chance(1, 2) {
             let again = caller.new_number();
             caller.section(again, count, false);
         }
@@ -160,11 +167,11 @@ fn line_of_short_sections(caller: &mut Caller, fewest: i64, most: i64) {
         if is_loop && last {
             let start = caller.opened().start;
             let count = caller.stations_to_shut(2);
-            caller.section(start, count, true);
+            caller.lasting_section(start, count, true);
         } else {
             let known = k > SECTIONS_OF_A_LINE as i64 && caller.random.chance(1, 2);
             let number = if known { caller.doubtful_number() } else { caller.new_number() };
-            caller.section(number, 2, false);
+            caller.lasting_section(number, 2, false);
         }
     }
 }
@@ -190,7 +197,7 @@ fn long_line(caller: &mut Caller) {
         caller.length = Some(if fits { longest + off } else { full });
         let shuts = fits && is_loop && done > 0;
         let number = if shuts { caller.opened().start } else { caller.new_number() };
-        if caller.section(number, count, shuts) && fits {
+        if caller.lasting_section(number, count, shuts) && fits {
             break;
         }
     }

@@ -3,7 +3,7 @@
 //! The other implementation: `fraction`, `constants`, `station`, `collimation`, `rules`, `plain`, `standing`, `closing`, `adjust`, `figures`, and for texts `text`,
 //! `write`, `report`.
 //! Inputs for comparisons: `random`, `lent`, `examples`, `opening`, `fixed`, for lists of calls `wished`, `angles`, `measured`, `caller`, `at_limits`, `mistakes`, `work`,
-//! `generate`, `mutate`, and for texts `damage`, `largest`. Both implementations on one of them: `both`.
+//! `lifted`, `generate`, `mutate`, and for texts `damage`, `largest`. Both implementations on one of them: `both`.
 
 pub mod adjust;
 pub mod angles;
@@ -20,6 +20,7 @@ pub mod fraction;
 pub mod generate;
 pub mod largest;
 pub mod lent;
+pub mod lifted;
 pub mod measured;
 pub mod mutate;
 pub mod opening;

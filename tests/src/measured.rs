@@ -29,7 +29,7 @@ impl Caller<'_> {
                 return;
             }
             1 => return self.trouble(&goal),
-            2 => self.random.pick(&[Call::DropRun, Call::DropSection]).clone(),
+            2 => self.random.pick(&[Call::DropRun, Call::DropSection, Call::LiftSection]).clone(),
             3 => self.doubtful_closing(),
             _ => Call::Constants(self.constants_out_of_range()),
         };

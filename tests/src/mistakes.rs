@@ -26,7 +26,8 @@ impl Caller<'_> {
             10..=11 => any_call(self.random),
             12 => self.doubtful_collimation(),
             13 => self.doubtful_constants(),
-            14..=29 => self.station_at_a_limit(goal),
+            14 => Call::LiftSection,
+            15..=29 => self.station_at_a_limit(goal),
             _ => self.spoilt_station(goal),
         };
         self.put(call);

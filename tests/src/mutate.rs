@@ -77,7 +77,7 @@ pub fn arguments(call: &mut Call) -> Vec<&mut i64> {
             all
         }
         Call::EndRun(number) | Call::CloseSpur(number) => vec![number],
-        Call::DropRun | Call::DropSection => vec![],
+        Call::DropRun | Call::DropSection | Call::LiftSection => vec![],
         Call::CloseLine { number, height } => vec![number, height],
         Call::Collimation(values) => values.iter_mut().collect(),
         Call::Constants(values) => values.iter_mut().collect(),
@@ -98,7 +98,7 @@ pub fn any_call(random: &mut Random) -> Call {
     let k = *random.pick(&NOMINAL);
     let m = random.between(1, 2_999);
     let staff = [m + 1, m - 1, m, m + k];
-    let mut call = match random.below(10) {
+    let mut call = match random.below(11) {
         0 => Call::Open(Opened { height: 0, ..usual(3) }),
         1 => Call::Station {
             back_k: k,
@@ -112,6 +112,7 @@ pub fn any_call(random: &mut Random) -> Call {
         6 => Call::CloseSpur(1),
         7 => Call::Collimation(TABLE_B7),
         8 => Call::Constants(MEASURED),
+        9 => Call::LiftSection,
         _ => Call::CloseLine { number: 1, height: 0 },
     };
     for argument in arguments(&mut call) {

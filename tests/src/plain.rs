@@ -24,6 +24,7 @@ pub enum Call {
     Collimation([i64; 6]),
     /// The measured constant of the staff 4,687, then of the staff 4,787, in tenths of a mm.
     Constants([i64; 2]),
+    LiftSection,
 }
 
 #[derive(Clone, Debug, PartialEq, Eq)]
@@ -165,6 +166,7 @@ impl Reading {
             Call::CloseSpur(number) => return self.close_spur(number).map(Answer::Closed),
             Call::Collimation(values) => self.collimation(&values)?,
             Call::Constants(values) => self.measured(&values)?,
+            Call::LiftSection => self.lift_section()?,
         }
         Ok(Answer::Taken)
     }
@@ -256,5 +258,12 @@ impl Reading {
         self.run.clear();
         self.waiting = None;
         Ok(())
+    }
+
+    /// Takes the last section out (document 02, W-210); there must be one, and nothing of another.
+    fn lift_section(&mut self) -> Outcome {
+        self.open_line()?;
+        refuse_if(self.waiting.is_some() || !self.run.is_empty(), 53)?;
+        self.sections.pop().map(|_| ()).ok_or(53)
     }
 }

@@ -1,5 +1,5 @@
-//! The text book (document 01, "The text book and the report"; document 02, W-202 to W-204),
-//! read from any bytes.
+//! The text book (document 01, "The text book and the report"; document 02, W-202 to W-204
+//! and W-210), read from any bytes.
 
 use crate::plain::{Call, Opened};
 
@@ -72,6 +72,7 @@ pub fn fields_of(tag: &[u8]) -> Option<usize> {
         b"FIN" => Some(1),
         b"ANG" => Some(6),
         b"KON" => Some(2),
+        b"LFT" => Some(0),
         _ => None,
     }
 }
@@ -108,6 +109,7 @@ fn call(tag: &[u8], n: &[i64]) -> Call {
         b"FIN" => Call::CloseSpur(n[0]),
         b"ANG" => Call::Collimation([n[0], n[1], n[2], n[3], n[4], n[5]]),
         b"KON" => Call::Constants([n[0], n[1]]),
+        b"LFT" => Call::LiftSection,
         _ => Call::CloseLine { number: n[0], height: n[1] },
     }
 }

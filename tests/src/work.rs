@@ -120,6 +120,7 @@ impl Caller<'_> {
             if self.put(call) {
                 return;
             }
+            self.level_the_end_anew();
         }
     }
 
@@ -146,7 +147,7 @@ impl Caller<'_> {
                 0 => self.doubtful_opening(),
                 1 => self.doubtful_closing(),
                 2 => Call::EndRun(self.doubtful_number()),
-                3 => self.random.pick(&[Call::DropRun, Call::DropSection]).clone(),
+                3 => self.random.pick(&[Call::DropRun, Call::DropSection, Call::LiftSection]).clone(),
                 4 => any_call(self.random),
                 5 => self.doubtful_collimation(),
                 6 => self.doubtful_constants(),

@@ -48,13 +48,14 @@ pub fn words_of(call: &Call) -> (&'static str, Vec<i64>) {
         Call::CloseSpur(number) => ("FIN", vec![number]),
         Call::Collimation(values) => ("ANG", values.to_vec()),
         Call::Constants(values) => ("KON", values.to_vec()),
+        Call::LiftSection => ("LFT", vec![]),
     }
 }
 
 /// A call as the list runner takes it: its kind and its arguments, which are those of its text line.
 pub fn numbers_of(call: &Call) -> Vec<i64> {
     let (tag, numbers) = words_of(call);
-    let kinds = ["LIN", "STA", "RUN", "DRR", "DRS", "END", "SPR", "FIN", "ANG", "KON"];
+    let kinds = ["LIN", "STA", "RUN", "DRR", "DRS", "END", "SPR", "FIN", "ANG", "KON", "LFT"];
     let kind = kinds.iter().position(|&one| one == tag).expect("a tag") as i64 + 1;
     [vec![kind], numbers].concat()
 }

@@ -34,6 +34,7 @@ fn typed(call: &Call) -> levelbook::Call {
         Call::CloseSpur(number) => levelbook::Call::CloseSpur { number },
         Call::Collimation([a1, b1, a2, b2, d1, d2]) => levelbook::Call::Collimation { readings: [a1, b1, a2, b2], distances: [d1, d2] },
         Call::Constants([staff_4687, staff_4787]) => levelbook::Call::Constants { staff_4687, staff_4787 },
+        Call::LiftSection => levelbook::Call::LiftSection,
     }
 }
 
@@ -56,7 +57,7 @@ fn compare_typed(calls: &[Call], numbers: &[u8], reading: &Reading, closed: &Opt
 
 /// A kind that is no call's.
 fn no_kind(random: &mut Random) -> i64 {
-    *random.pick(&[0, 11, 12, -1, -2, 257, 265, 266, (1 << 32) + 1, (1 << 62) + 2, i64::MAX, i64::MIN, i64::MIN + 3])
+    *random.pick(&[0, 12, 13, -1, -2, 257, 265, 266, 267, (1 << 32) + 1, (1 << 62) + 2, i64::MAX, i64::MIN, i64::MIN + 3])
 }
 
 /// A list over another's first places, as far as it has places.
@@ -71,6 +72,9 @@ fn over<T: Copy>(list: &[T], old: &[T]) -> Vec<T> {
 const CLOSED: u8 = 100;
 const SPUR_CLOSED: u8 = 101;
 const MEASURED_CLOSED: u8 = 102;
+
+/// In the counts, a section that is lifted.
+const LIFTED: u8 = 103;
 
 /// What a closing gives keeps its promises, whose exact fractions are computed from the standing list.
 fn check_closing(reading: &Reading, closing: &Closing, counts: &mut BTreeMap<u8, u64>) {
@@ -98,6 +102,8 @@ fn compare(random: &mut Random, calls: &[Call], counts: &mut BTreeMap<u8, u64>) 
         list.extend(entry(random, &numbers_of(call)));
         expected.push(number);
     }
+    let lifted = calls.iter().zip(&answered).filter(|&(call, &number)| *call == Call::LiftSection && number == 0).count();
+    *counts.entry(LIFTED).or_default() += lifted as u64;
     compare_typed(calls, &answered, &reading, &closed);
     let rest = random.below(11);
     list.extend((0..rest).map(|_| random.between(0, 9)));
@@ -130,7 +136,7 @@ fn hundred_thousand_lists() {
         assert!(counts.get(&number).is_some_and(|&count| count >= 20), "too few of {number}: {counts:?}");
     }
     assert_eq!(counts.get(&20), None);
-    for number in 41..=46 {
+    for number in (41..=46).chain([53, LIFTED]) {
         assert!(counts[&number] >= 5_000, "too few of {number}: {counts:?}");
     }
     assert!(counts[&CLOSED] >= 20_000 && counts[&SPUR_CLOSED] >= 10_000 && counts[&MEASURED_CLOSED] >= 10_000, "too few closings: {counts:?}");

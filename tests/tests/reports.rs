@@ -60,9 +60,9 @@ fn twenty_thousand_books() {
     println!("spur first  verdict  closed");
     verdicts.iter().for_each(|((spur, verdict), count)| println!("{spur:10} {verdict:8} {count:7}"));
     println!("{large} with a T above 99,999,999\nrefusal  text lines");
-    (1..=46).for_each(|number| println!("{number:7} {:11}", refusals.get(&number).unwrap_or(&0)));
-    assert!(refusals.keys().copied().eq((1..=8).chain(21..=36).chain(41..=46)), "{refusals:?}");
-    assert!((41..=46).all(|number| refusals[&number] >= 500), "too few: {refusals:?}");
+    (1..=53).for_each(|number| println!("{number:7} {:11}", refusals.get(&number).unwrap_or(&0)));
+    assert!(refusals.keys().copied().eq((1..=8).chain(21..=36).chain(41..=46).chain([53])), "{refusals:?}");
+    assert!((41..=46).chain([53]).all(|number| refusals[&number] >= 500), "too few: {refusals:?}");
     assert_eq!(verdicts.len(), 6, "each verdict of lines and of spurs: {verdicts:?}");
     assert!(large >= 10, "too few of a large T: {large}");
 }
@@ -112,7 +112,7 @@ fn sixty_four_sections_in_a_text() {
 #[test]
 fn the_largest_text() {
     let [order_5, ang, kon] = [Call::Open(usual(5)), Call::Collimation(TABLE_B7), Call::Constants(MEASURED)].map(|call| line_of(&call).unwrap());
-    for (line, refusal) in [(filled(""), 1), (filled("RUN"), 2), (order_5, 3), (filled("DRR"), 21), (filled("FIN       1"), 21), (ang, 21), (kon, 43)] {
+    for (line, refusal) in [(filled(""), 1), (filled("RUN"), 2), (order_5, 3), (filled("DRR"), 21), (filled("LFT"), 21), (filled("FIN       1"), 21), (ang, 21), (kon, 43)] {
         let text = after_heading(&line);
         assert_eq!(text.len(), LONGEST_TEXT);
         let report = report(&text).unwrap();

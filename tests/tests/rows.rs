@@ -171,7 +171,7 @@ fn the_numbers() {
 
 #[test]
 fn rows_that_are_no_records() {
-    assert_eq!(refused("# remark\nSTAT 1\n"), "rows: row 2: STAT: no such tag; there are LIN STA RUN DRR DRS END SPR FIN ANG KON\n");
+    assert_eq!(refused("# remark\nSTAT 1\n"), "rows: row 2: STAT: no such tag; there are LIN STA RUN DRR DRS END SPR FIN ANG KON LFT\n");
     assert_eq!(refused("DRR\n\nrun 2\n"), "rows: row 3: run: tags are written in capitals, RUN\n");
     assert_eq!(refused("Run 2.5\n"), "rows: row 1: Run: tags are written in capitals, RUN\nrows: row 1: field 1: 2.5: a whole number, no point or comma\n");
     assert_eq!(refused("RUN BM 2\n"), "rows: row 1: RUN has 2 numbers, needs 1\nrows: row 1: field 1: BM: not a number\n");

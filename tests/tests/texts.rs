@@ -65,6 +65,7 @@ fn every_tag_gives_its_call() {
         (line("FIN", &[3]), Call::CloseSpur(3)),
         (line("ANG", &[1, -2, 3, 4, 5, 99_999_999]), Call::Collimation([1, -2, 3, 4, 5, 99_999_999])),
         (line("KON", &[46_873, -9_999_999]), Call::Constants([46_873, -9_999_999])),
+        (line("LFT", &[]), Call::LiftSection),
     ];
     for (written, call) in calls {
         assert_eq!(parse_line(&written.unwrap()), Ok(call));
@@ -73,7 +74,7 @@ fn every_tag_gives_its_call() {
 
 #[test]
 fn one_comes_before_two() {
-    let cases: [(&str, u8); 26] = [
+    let cases: [(&str, u8); 29] = [
         ("RUN        ", 2),
         ("RUN       x", 2),
         ("RUN       xx", 1),
@@ -100,6 +101,9 @@ fn one_comes_before_two() {
         ("KON  4687.3  4786.6", 2),
         ("KON   46873   47866       0", 1),
         ("kon   46873   47866", 1),
+        ("LFT       1", 1),
+        ("LFT       x", 1),
+        ("lft", 1),
     ];
     for (words, refusal) in cases {
         assert_eq!(parse_line(&filled(words)), Err(refusal), "{words:?}");
