@@ -60,6 +60,7 @@ uint8_t level_adjust(const struct level_leg *legs, size_t count, int64_t start, 
  *   4 drop run                                                8 close spur: number
  *   9 collimation: A1, B1, A2, B2 (sums of four readings), D1, D2 (distances), in mm
  *   10 constants, directly after 1 or 7: the measured ones of the staff 4,687, then of the staff 4,787, in tenths of a mm
+ *   11 lift section: the last finished one
  * An entry of another kind is refused with 1, and so is a rest of 1 to 10 numbers at the end, which is one entry more; nothing else of them is looked
  * at, and the book stays as it is. The answer is how many entries there are. Each entry's number goes into its place of `numbers`, the figures of the
  * book that is left into `figures`, both as far as there are places. There are LEVEL_FIGURES figures: W, L, n, T and verdict, 0 while the line is not

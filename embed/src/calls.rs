@@ -35,6 +35,9 @@ pub enum Call {
     /// are taken go. Stations name their staffs by 4,687 and 4,787 all the same. Closure, corrections and twice-heights are then in units one tenth as
     /// large.
     Constants { staff_4687: i64, staff_4787: i64 },
+    /// Takes the last finished section out of the open line, so that it can be levelled anew; a loop that it shut is open again. Not with stations in the
+    /// present run or a waiting run.
+    LiftSection,
 }
 
 impl Call {
@@ -53,6 +56,7 @@ impl Call {
             Call::CloseSpur { number } => [8, number, 0, 0, 0, 0, 0, 0, 0, 0, 0],
             Call::Collimation { readings: [a1, b1, a2, b2], distances: [d1, d2] } => [9, a1, b1, a2, b2, d1, d2, 0, 0, 0, 0],
             Call::Constants { staff_4687, staff_4787 } => [10, staff_4687, staff_4787, 0, 0, 0, 0, 0, 0, 0, 0],
+            Call::LiftSection => [11, 0, 0, 0, 0, 0, 0, 0, 0, 0, 0],
         }
     }
 }
@@ -180,6 +184,20 @@ pub struct Outcome {
 /// calls.extend([second, Call::EndRun { number: 2 }, Call::CloseLine { number: 2, height: 10_657 }]);
 /// let closing = run_calls(&calls).closing.unwrap();
 /// assert_eq!((closing.closure, closing.points[1].correction, closing.points[1].height), (40, -40, 10_657));
+/// ```
+///
+/// A section whose mark was destroyed is lifted and levelled anew, here on the same number; nothing of the lifted one is left:
+///
+/// ```
+/// # use levelbook::{run_calls, Call, Staff};
+/// # let staff = |constant, [upper, lower, black, red]: [i64; 4]| Staff { constant, upper, lower, black, red };
+/// # let first = Call::Station { back: staff(4787, [1571, 1197, 1384, 6171]), fore: staff(4687, [739, 363, 551, 5239]) };
+/// # let second = Call::Station { back: staff(4687, [1965, 1700, 1832, 6519]), fore: staff(4787, [2141, 1874, 2007, 6793]) };
+/// let opened = [Call::Open { order: 4, instrument: 3, start: 1, height: 10_000 }, Call::Collimation { readings: [5937, 5951, 6043, 6067], distances: [6800, 40_300] }];
+/// let section = [first, second, Call::EndRun { number: 2 }];
+/// let outcome = run_calls(&[&opened[..], &section, &[Call::LiftSection, Call::LiftSection], &section, &[Call::CloseLine { number: 2, height: 10_657 }]].concat());
+/// assert_eq!(outcome.numbers, [0, 0, 0, 0, 0, 0, 53, 0, 0, 0, 0]);
+/// assert_eq!((outcome.sections, outcome.closing.unwrap().length), (1, 2_564));
 /// ```
 pub fn run_calls(calls: &[Call]) -> Outcome {
     let list: Vec<i64> = calls.iter().flat_map(Call::numbers).collect();

@@ -107,8 +107,8 @@ pub fn adjust(start: i64, end: i64, sections: &[Leg], heights: &mut [i64]) -> Re
 /// An entry's first number is its kind, the others are its call's arguments, and those that the call does not have are not looked at: 1 open (order,
 /// instrument, start number, start height), 2 station (K, u, l, m, r back, then fore), 3 end run (number), 4 drop run, 5 drop section, 6 close line
 /// (number, height), 7 open spur (as 1, order 4 alone), 8 close spur (number), 9 collimation (A1, B1, A2, B2, D1, D2), 10 constants (of the staff 4,687,
-/// then of the staff 4,787, in tenths of a mm; directly after 1 or 7). An entry of any other kind is refused with 1, and so is a rest of 1 to 10 numbers
-/// at the end, which is one entry more; nothing else of them is looked at, and the book stays as it is.
+/// then of the staff 4,787, in tenths of a mm; directly after 1 or 7), 11 lift section (the last finished one). An entry of any other kind is refused with
+/// 1, and so is a rest of 1 to 10 numbers at the end, which is one entry more; nothing else of them is looked at, and the book stays as it is.
 ///
 /// The figures are W, L, n, T and verdict, each 0 while the line is not closed; of the present run its stations, the sum of twice-heights, of sights
 /// and of d; the finished sections; then number, S, correction and height of the start and each section, 0 where there is none: [`FIGURES`] numbers.
@@ -124,7 +124,7 @@ pub fn adjust(start: i64, end: i64, sections: &[Leg], heights: &mut [i64]) -> Re
 /// let entries = levelbook::run(&[open, collimation, station, station].concat(), &mut numbers, &mut figures);
 /// assert_eq!((entries, numbers), (4, [0, 0, 0, 23]));
 /// assert_eq!(figures[5..10], [1, 1665, 750, -2, 0]);
-/// let unknown_kind_and_rest = [11; levelbook::CALL_NUMBERS + 4];
+/// let unknown_kind_and_rest = [12; levelbook::CALL_NUMBERS + 4];
 /// assert_eq!(levelbook::run(&unknown_kind_and_rest, &mut numbers[..1], &mut figures), 2);
 /// assert_eq!(numbers, [1, 0, 0, 23]);
 /// ```
