@@ -1,13 +1,13 @@
 -- How large the figures of a line can be: W, and the height and the correction of a point; and that T is not below 0.
 use mathlib.Core.Path.{◌≡◌, ap}
 use mathlib.Core.Bool.{Bool, true, false, cond}
-use mathlib.Core.List.{List, [], ◌∷◌, map}
+use mathlib.Core.List.{List, [], ◌∷◌}
 use Prim.Native.Nat.{ℕ, ◌+◌, ◌*◌, ◌≤◌, ◌<◌}
 use native.Mathlib.Nat.{mul-le-mul, le_of_mul-le-mul_left}
 use native.Mathlib.Omega.{arith}
 use lib.IntN.{ℤ, pos, nat_abs, ◌+ℤ◌, ◌-ℤ◌, ◌*ℤ◌}
 use lib.Signed.{◌≤ℤ◌}
-use Rattle.numbers.specs.Numbers.{sum, within}
+use Rattle.numbers.specs.Numbers.{within}
 use Rattle.numbers.proofs.Tests.{and_l, and_r}
 use Rattle.numbers.proofs.All.{All, all_head}
 use Rattle.numbers.proofs.Parts.{ints, neg_part, parts_add, parts_sub, parts_times, parts_abs}
@@ -22,13 +22,14 @@ use Rattle.adjust.specs.declared.Section.{Section}
 use Rattle.adjust.specs.declared.Frame.{Frame}
 use Rattle.adjust.specs.declared.Verdict.{Verdict}
 use Rattle.adjust.specs.declared.Verdict.TheVariants.{NotGiven, Within, Above}
-use Rattle.adjust.specs.Line.{units_of, exact_top, accidental, accidental_sum, verdict_number}
+use Rattle.adjust.specs.Line.{units_of, exact_top, accidental, section_error, accidental_sum, verdict_number}
 use Rattle.adjust.proofs.Lists.{Fit, fit_head, fit_tail}
 use Rattle.adjust.specs.declared.terms.Terms.{Terms}
 use Rattle.adjust.specs.Sizes.{most_l}
 use Rattle.adjust.specs.Terms.{terms_by}
 use Rattle.rules.specs.Rules.{closure_within}
-use Rattle.ledger.proofs.Runs.{root_size, narrow}
+use Rattle.rules.proofs.Finished.{root_size}
+use Rattle.ledger.proofs.Runs.{narrow}
 
 -- ---- sections
 
@@ -58,15 +59,13 @@ accidental_low squared u x long =
     rw (round_exact (pos 0) d some) at (round_mono (pos d *ℤ pos 0) (pos 500000 *ℤ square) d some above)
 
 pub sum_low : (terms : Terms) (squared : ℕ) → 0 < squared → (ss : List Section) → Fit ss → pos 0 ≤ℤ accidental_sum terms squared ss
-sum_low terms squared u ss f = go terms.double
+sum_low terms squared u [] f = omega ints
+sum_low terms squared u (x ∷ xs) f =
+    omega (ints, parts_add (section_error terms squared x) (accidental_sum terms squared xs), low terms.double, sum_low terms squared u xs (fit_tail x xs f))
   where
-    all : (xs : List Section) → Fit xs → pos 0 ≤ℤ sum (map (accidental squared) xs)
-    all [] g = omega ints
-    all (x ∷ xs) g = omega (ints, parts_add (accidental squared x) (sum (map (accidental squared) xs)), accidental_low squared u x (fit_head x xs g).long, all xs (fit_tail x xs g))
-
-    go : (t : Bool) → pos 0 ≤ℤ cond t (sum (map (accidental squared) ss)) (pos 0)
-    go true = all ss f
-    go false = omega ints
+    low : (t : Bool) → pos 0 ≤ℤ cond t (accidental squared x) (pos 0)
+    low true = accidental_low squared u x (fit_head x xs f).long
+    low false = omega ints
 
 pub verdict_small : (v : Verdict) → verdict_number v ≤ 2
 verdict_small NotGiven = omega arith

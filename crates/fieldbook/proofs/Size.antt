@@ -9,6 +9,7 @@ use lib.ListN.{length, length-append}
 use lib.IntN.{ℤ}
 use Rattle.std.specs.Prelude.{Some, None}
 use Rattle.std.specs.declared.option.Option.{Option}
+use Rattle.numbers.proofs.Last.{but_last_short}
 use Rattle.numbers.proofs.Tests.{by_test, no_true, not-false}
 use Rattle.adjust.specs.declared.terms.Class.{Class}
 use Rattle.adjust.specs.declared.terms.Class.TheVariants.{Third, Fourth, Spur}
@@ -17,7 +18,7 @@ use Rattle.rules.specs.declared.Stage.{Stage}
 use Rattle.rules.specs.declared.Stage.TheVariants.{Fresh, Open, Closed}
 use Rattle.rules.specs.LineState.{is_open}
 use Rattle.rules.specs.declared.call.Call.{Call}
-use Rattle.rules.specs.declared.call.Call.TheVariants.{OpenLine as open_line, Station as station, EndRun as end_run, DropRun as drop_run, DropSection as drop_section, CloseLine as close_line, OpenSpur as open_spur, CloseSpur as close_spur, Collimation as collimation, Constants as constants}
+use Rattle.rules.specs.declared.call.Call.TheVariants.{OpenLine as open_line, Station as station, EndRun as end_run, DropRun as drop_run, DropSection as drop_section, CloseLine as close_line, OpenSpur as open_spur, CloseSpur as close_spur, Collimation as collimation, Constants as constants, LiftSection as lift_section}
 use Rattle.ledger.specs.Plain.{Reading, Awaited, refusal, taken, run_ended, plain_state}
 use Rattle.ledger.specs.Entries.{Entry, asks, refused, entry_refusal, entry_next}
 use Rattle.rules.proofs.Tables.{fails}
@@ -69,6 +70,7 @@ taken_least r (close_line number end) e =
 taken_least r (open_spur order instrument number height) e = omega arith
 taken_least r (collimation x) e = omega arith
 taken_least r (constants first second) e = omega arith
+taken_least r lift_section e = omega (arith, but_last_short r.sections)
 taken_least r (close_spur number) e =
     let opened = not-false (is_open r.stage) (fails (plain_state r) (close_spur number) e 21) in
     omega (arith, open_lines r.stage opened)

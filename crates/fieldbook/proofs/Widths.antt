@@ -35,7 +35,7 @@ use Rattle.rules.specs.declared.Stage.TheVariants.{Closed}
 use Rattle.rules.specs.LineState.{LineState}
 use Rattle.adjust.specs.Terms.{squared_of, terms_of, terms_by}
 use Rattle.rules.specs.declared.call.Call.{Call}
-use Rattle.rules.specs.declared.call.Call.TheVariants.{OpenLine as open_line, OpenSpur as open_spur, Collimation as collimation, Constants as constants, Station as station, EndRun as end_run, DropRun as drop_run, DropSection as drop_section, CloseLine as close_line, CloseSpur as close_spur}
+use Rattle.rules.specs.declared.call.Call.TheVariants.{OpenLine as open_line, OpenSpur as open_spur, Collimation as collimation, Constants as constants, LiftSection as lift_section, Station as station, EndRun as end_run, DropRun as drop_run, DropSection as drop_section, CloseLine as close_line, CloseSpur as close_spur}
 use Rattle.rules.specs.Rules.{closure_within}
 use Rattle.ledger.specs.Plain as Plain
 use Rattle.ledger.specs.Claims.{ClosedBy, by_end, by_fin}
@@ -194,6 +194,7 @@ closed_small r drop_section never e k = elim never [ ]
 closed_small r (open_spur _ _ _ _) never e k = elim never [ ]
 closed_small r (collimation _) never e k = elim never [ ]
 closed_small r (constants _ _) never e k = elim never [ ]
+closed_small r lift_section never e k = elim never [ ]
 
 pub figures_fit_lem : FiguresFit
 figures_fit_lem calls e =

@@ -14,8 +14,8 @@ use lib.Signed.{◌≤ℤ◌, le_z}
 use Rattle.numbers.specs.Tables.{first_of}
 use Rattle.numbers.proofs.Tests.{by_test, no_true, and_l, and_r, or_l, or_r, not-false}
 use Rattle.numbers.proofs.Tables.{first_skips}
-use Rattle.numbers.proofs.All.{All, all_head, all_tail, all_cons, all_append}
-use Rattle.numbers.proofs.Last.{but_last_length}
+use Rattle.numbers.proofs.All.{All, all_cons, all_append}
+use Rattle.numbers.proofs.Last.{but_last_short, all_last, all_but_last}
 use Rattle.numbers.specs.Numbers.{between, last_of, but_last}
 use Rattle.numbers.proofs.Parts.{ints, parts_abs, pos_abs, test_le}
 use Rattle.station.specs.declared.Staffs.{Staffs}
@@ -80,16 +80,6 @@ pub record Kept (v : LineState) : Type 0 where
   pub narrow_sections : All (narrow v.line.opening.staffs) v.sections
   -- measured constants are in their ranges
   pub staffs : staffs_fit v.line.opening.staffs ≡ true
-
--- of the last element too, and of all others
-all_last : {A : Type 0} (p : A → Bool) (x : A) (xs : List A) → All p (x ∷ xs) → p (last_of x xs) ≡ true
-all_last p x [] f = all_head p x [] f
-all_last p x (y ∷ ys) f = all_last p y ys (all_tail p x (y ∷ ys) f)
-
-all_but_last : {A : Type 0} (p : A → Bool) (xs : List A) → All p xs → All p (but_last xs)
-all_but_last p [] f = refl
-all_but_last p (x ∷ []) f = refl
-all_but_last p (x ∷ (y ∷ ys)) f = all_cons p x (but_last (y ∷ ys)) (all_head p x (y ∷ ys) f) (all_but_last p (y ∷ ys) (all_tail p x (y ∷ ys) f))
 
 -- so the test of 20 does not hold
 pub kept_unbroken : (v : LineState) → Kept v → (c : Call) → broken v c ≡ false
@@ -235,7 +225,7 @@ lift_kept v i e =
     let alone = or_r (is_empty v.sections || not (eqb v.line.present.count 0)) (is_return v.line.waiting) (test 53) in
     let c : Staffs = v.line.opening.staffs in
     record {
-      few = omega (arith, shorter v.sections, i.few);
+      few = omega (arith, but_last_short v.sections, i.few);
       fit = all_but_last section_fits v.sections i.fit;
       present = i.present;
       waiting = awaits c v.line.waiting alone;
@@ -249,10 +239,6 @@ lift_kept v i e =
       staffs = i.staffs;
     }
   where
-    shorter : (ss : List Section) → length (but_last ss) ≤ length ss
-    shorter [] = omega arith
-    shorter (x ∷ xs) = omega (arith, but_last_length x xs)
-
     awaits : (c : Staffs) (w : Option Outward) → is_return w ≡ false → Awaits c (length (but_last v.sections)) w
     awaits c None e = tt
     awaits c (Some w) e = no_true (sym e)
