@@ -1,5 +1,5 @@
 -- One to 64 sections in the wider range between known heights: the sizes of ΣQ, L and W, and that a line is at least 1 long.
-use mathlib.Core.Path.{◌≡◌, refl}
+use mathlib.Core.Path.{◌≡◌, refl, ap, ◌∙◌}
 use mathlib.Core.Bool.{Bool, true, false, cond, ◌&&◌}
 use mathlib.Core.List.{List, [], ◌∷◌}
 use Prim.Native.Nat.{ℕ, ◌*◌, ◌≤◌}
@@ -7,11 +7,14 @@ use native.Mathlib.Omega.{arith}
 use lib.Dec.{leb, ltb, leb→le, ltb→lt, nltb→le}
 use lib.ListN.{length}
 use lib.IntN.{ℤ, pos, neg_ℤ, nat_abs}
+use mir.Syntax.{w64}
+use mir.Val.{SFits}
 use lib.Signed.{◌≤ℤ◌, le_z}
 use Rattle.numbers.proofs.Tests.{holds, fails, and_l, and_r, not-false}
 use Rattle.numbers.proofs.Parts.{ints, parts_add, parts_abs, test_le}
 use Rattle.numbers.proofs.Sizes.{abs_add}
 use Rattle.numbers.proofs.Tables.{failed}
+use Rattle.numbers.proofs.Machine.{stored, stored_id}
 use Rattle.numbers.proofs.Chain.{plain, add, sub, mul}
 use Rattle.station.specs.declared.Staffs.{Staffs}
 use Rattle.station.specs.declared.Staffs.TheVariants.{Nominal, Measured}
@@ -60,6 +63,15 @@ module _ {units prints start end : ℤ} {ss : List Section} (u : OneTo most_unit
               most = omega (arith, length_size ss b.fits.legs, b.fits.few);
             };
       }
+
+-- and what `totals_from` asks of the machine's heights and ΣQ
+pub between_sizes : {units start end q : ℤ} {ss : List Section} → OneTo most_units units → Between start end ss → SFits w64 start → SFits w64 end → SFits w64 q → q ≡ line_height ss
+    → OneTo most_units units × (nat_abs (stored start) ≤ highest) × (nat_abs (stored end) ≤ highest) × (nat_abs (stored q) ≤ most_sum_q)
+between_sizes {start = start} {end = end} {q = q} {ss = ss} u b f g h e =
+    let begins : nat_abs (stored start) ≤ highest = omega (arith, ap nat_abs (stored_id f), b.start_size) in
+    let ends : nat_abs (stored end) ≤ highest = omega (arith, ap nat_abs (stored_id g), b.end_size) in
+    let height : nat_abs (stored q) ≤ most_sum_q = omega (arith, ap nat_abs (stored_id h ∙ e), height_size ss b.fits.legs, b.fits.few) in
+    (u, begins, ends, height)
 
 -- the base's units are some
 pub quarters_in : OneTo most_units quarters

@@ -133,9 +133,8 @@ fn figures_that_fit(b: &Book) -> Result<LineFigures, Refusal>
     ensures figures { IfOk result (λ f. f ≡ adjusted_of (closing_of (state_of b.now))) }
 {
     let line = &b.line;
-    adjust::adjusted_line(&line.opening, line.end, &line.sums, b.sections.listed()).ok_or(
-        Refusal::Broken,
-    )
+    let sections = b.sections.listed();
+    adjust::adjusted_line(&line.opening, line.end, &line.sums, sections).ok_or(Refusal::Broken)
 }
 
 // What closing gives of the book that it left, or its refusal.

@@ -12,14 +12,14 @@ use Rattle.adjust.specs.declared.SectionSums.{SectionSums}
 use Rattle.adjust.specs.declared.Frame.{Frame}
 use Rattle.station.specs.declared.Staffs.TheVariants.{Nominal}
 use Rattle.adjust.specs.declared.terms.Terms.{Terms}
-use Rattle.adjust.specs.Sizes.{highest, most_units, most_prints, most_allowed, most_sum_q, most_w}
+use Rattle.adjust.specs.Sizes.{most_units, most_prints, most_allowed, most_w}
 use Rattle.adjust.specs.Terms.{terms_of}
 use Rattle.adjust.specs.Line.{wholes, units_of, closure_by, totals_by, frame, line_frame, points, verdict}
 use Rattle.adjust.specs.Kept.{totals_from}
 use Rattle.adjust.specs.Frames.{no_point}
 use Rattle.adjust.specs.code.Bounds.{OneTo, Framed}
 use Rattle.adjust.proofs.Classes.{row}
-use Rattle.adjust.proofs.Sized.{height_size, units_in, wholes_in, framed, framed_by}
+use Rattle.adjust.proofs.Sized.{between_sizes, units_in, wholes_in, framed, framed_by}
 use Rattle.adjust.proofs.closing_of.Goals as goal
 use Rattle.adjust.proofs.closing_of.Goals.{After-new-f}
 
@@ -48,15 +48,11 @@ module _ (c : After-new-f) where
 pub totals_from-requires : goal.totals_from-requires
 totals_from-requires c =
     let o = c.args.opening.now in
-    let between = c.requires.0 in
     let start : SFits w64 o.start.height = search rules in
     let u : SFits w64 c.units_of-units.result = search rules in
     let q : SFits w64 c.args.kept.now.height = search rules in
-    let begin : nat_abs (stored o.start.height) ≤ highest = omega (arith, ap nat_abs (stored_id start), between.start_size) in
-    let end : nat_abs (stored c.args.end) ≤ highest = omega (arith, ap nat_abs (stored_id c.ranges.end), between.end_size) in
-    let height : nat_abs (stored c.args.kept.now.height) ≤ most_sum_q =
-    omega (arith, ap nat_abs (stored_id q ∙ ap (λ (k : SectionSums). k.height) c.requires.1), height_size c.args.sections.now between.fits.legs, between.fits.few) in
-    (subst (OneTo most_units) (sym (stored_id u ∙ c.units_of-units.ensures)) (units_in o.staffs), begin, end, height)
+    between_sizes (subst (OneTo most_units) (sym (stored_id u ∙ c.units_of-units.ensures)) (units_in o.staffs)) c.requires.0 start c.ranges.end q
+    (ap (λ (k : SectionSums). k.height) c.requires.1)
 
 pub verdict_of-requires : goal.verdict_of-requires
 verdict_of-requires c =

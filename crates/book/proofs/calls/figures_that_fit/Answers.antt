@@ -13,5 +13,5 @@ returns c =
     let b = c.args.b.now in
     let end : SFits w64 c.args.b.now.line.end = search rules in
     let shown : c.adjusted_line.result ≡ Some (adjusted_of (closing_of (state_of c.args.b.now))) =
-    c.adjusted_line.ensures ∙ (λ i. line_figures b.line.opening (stored_id end i) b.line.sums (c.listed.ensures.sections (few c.args.b.now c.requires) i)) ∙ line_given b c.requires in
+    c.adjusted_line.ensures ∙ (λ i. line_figures b.line.opening (stored_id end i) b.line.sums (c.listed-sections.ensures.sections (few c.args.b.now c.requires) i)) ∙ line_given b c.requires in
     record { number = search (rules, shown); figures = search (rules, shown) }
