@@ -21,7 +21,7 @@ use Rattle.adjust.specs.Kept.{sums_of, totals_from, sums_fit, unsummed}
 use Rattle.adjust.specs.Frames.{figures_fit, line_totals}
 use Rattle.adjust.specs.code.Bounds.{Between}
 use Rattle.adjust.proofs.Lists.{fitted_legs}
-use Rattle.adjust.proofs.Sized.{in_range_lem, units_in, squared_in}
+use Rattle.adjust.proofs.Sized.{in_range_lem, units_in, prints_in, squared_in}
 use Rattle.adjust.proofs.Kept.{summed_are, summed_fit, sum_bounds}
 
 module _ (o : Opening) (end : ℤ) (s : SectionSums) (ss : List Section) (e : figures_fit o end s ss ≡ true) where
@@ -65,7 +65,7 @@ pub sum_small : (s : SectionSums) → sums_fit s ≡ true → nat_abs s.height �
 sum_small s e = (sum_bounds s e).height
 
 -- what is asked where figures fit, by the machine's heights
-pub ruleset fits = (units_in, squared_in, fit_between, fit_summed, in_range_lem, sum_small, to_z-of_z)
+pub ruleset fits = (units_in, prints_in, squared_in, fit_between, fit_summed, in_range_lem, sum_small, to_z-of_z)
 
 -- ---- what is answered of sums and heights in range
 

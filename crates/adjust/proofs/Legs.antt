@@ -28,12 +28,12 @@ module _ (xs : List Leg) where
   pub legs_back : length xs ≤ 64 → take (length xs) (filled no_section 64 (leg_sections xs)) ≡ leg_sections xs
   legs_back h = ap (λ (n : ℕ). take n (filled no_section 64 (leg_sections xs))) (sym long) ∙ filled_take no_section 64 (leg_sections xs) (omega (arith, long))
 
-  module _ (start end : ℤ) (h : 64 < length xs) where
-    pub legs_many : (places : ℕ) → adjust_refusal start end (leg_sections xs) places ≡ 11
-    legs_many places = too_many start end (leg_sections xs) places (omega (arith, long))
+  module _ (start end prints : ℤ) (h : 64 < length xs) where
+    pub legs_many : (places : ℕ) → adjust_refusal start end prints (leg_sections xs) places ≡ 11
+    legs_many places = too_many start end prints (leg_sections xs) places (omega (arith, long))
 
-    pub legs_untouched : (hs : List ℤ) → heights_after start end (leg_sections xs) hs ≡ hs
+    pub legs_untouched : (hs : List ℤ) → heights_after start end prints (leg_sections xs) hs ≡ hs
     unfolding heights_after
-    legs_untouched hs = nonzero_cond (adjust_refusal start end (leg_sections xs) (length hs)) _ hs (λ e. omega (arith, legs_many (length hs), e))
+    legs_untouched hs = nonzero_cond (adjust_refusal start end prints (leg_sections xs) (length hs)) _ hs (λ e. omega (arith, legs_many (length hs), e))
 
 pub ruleset legs = (legs_back, legs_many, legs_untouched, to_z-of_z)

@@ -7,7 +7,7 @@ use native.Mathlib.Nat.{mul_comm, mul-le-mul}
 use native.Mathlib.Omega.{arith}
 use lib.IntN.{ℤ, pos, neg_ℤ, nat_abs, ◌+ℤ◌, ◌-ℤ◌, ◌*ℤ◌, +ℤ_idr, +ℤ_assoc, +ℤ_invr, *ℤ-zero, zero-*ℤ}
 use lib.Signed.{◌≤ℤ◌}
-use Rattle.numbers.proofs.Ring.{ringℤ, one_mulℤ}
+use Rattle.numbers.proofs.Ring.{ringℤ}
 use Rattle.numbers.proofs.Parts.{ints, parts_abs, pos_abs}
 use Rattle.numbers.proofs.Sizes.{abs_sub, abs_mul}
 use Rattle.roots.specs.Round.{round_even}
@@ -15,8 +15,8 @@ use Rattle.roots.proofs.RoundLaws.{round_is, round_exact, round_scale}
 use Rattle.adjust.specs.declared.Section.{Section}
 use Rattle.adjust.specs.declared.Point.{Point}
 use Rattle.adjust.specs.declared.Frame.{Frame}
-use Rattle.adjust.specs.Line.{wholes, frame, frame_of, line_length, line_height, exact_top, printed_height, points_after, section_points}
-use Rattle.adjust.specs.Claims.{Near, no_section, next_section, Sound, corrections, last_height, raw_heights}
+use Rattle.adjust.specs.Line.{frame, frame_of, line_length, line_height, exact_top, printed_height, points_after, section_points}
+use Rattle.adjust.specs.Claims.{Near, no_section, next_section, Sound, corrections, last_height, raw_heights, EveryAdjustment}
 
 -- ---- identities
 
@@ -159,35 +159,40 @@ module _ (units : ℕ) (u : 0 < units) (prints : ℤ) (ss : List Section) (h : p
   pub line_near : (start w : ℤ) → let f : Frame = frame (pos units) prints start (record { closure = w; distance = line_length ss }) in Near f (pos 0) (pos 0) ss (section_points f ss)
   line_near start w = frame_near (frame (pos units) prints start (record { closure = w; distance = line_length ss })) (some units u h) (whole units u h) ss
 
+-- in every print unit
+pub every_adjustment : EveryAdjustment
+every_adjustment prints start end ss some h = line_sound 4 (omega arith) (pos prints) ss h start end
+
 -- ---- a line without a closure
 
 -- the exact height without a closure is the start's with the running Q, at every distance
-raw_top : (u b l q s : ℤ) → pos 1 *ℤ (u *ℤ b *ℤ l +ℤ q *ℤ l -ℤ pos 0 *ℤ s) ≡ l *ℤ (u *ℤ b +ℤ q)
-raw_top u b l q s = one_mulℤ (u *ℤ b *ℤ l +ℤ q *ℤ l -ℤ pos 0 *ℤ s) ∙ ap (λ (z : ℤ). u *ℤ b *ℤ l +ℤ q *ℤ l -ℤ z) (zero-*ℤ s) ∙ +ℤ_idr (u *ℤ b *ℤ l +ℤ q *ℤ l) ∙ factor u b l q
+raw_top : (p u b l q s : ℤ) → p *ℤ (u *ℤ b *ℤ l +ℤ q *ℤ l -ℤ pos 0 *ℤ s) ≡ l *ℤ (p *ℤ (u *ℤ b +ℤ q))
+raw_top p u b l q s = ap (λ (z : ℤ). p *ℤ (u *ℤ b *ℤ l +ℤ q *ℤ l -ℤ z)) (zero-*ℤ s) ∙ ap (λ (z : ℤ). p *ℤ z) (+ℤ_idr (u *ℤ b *ℤ l +ℤ q *ℤ l)) ∙ factor p u b l q
   where
-    factor : (u b l q : ℤ) → u *ℤ b *ℤ l +ℤ q *ℤ l ≡ l *ℤ (u *ℤ b +ℤ q)
-    factor u b l q = simp ringℤ
+    factor : (p u b l q : ℤ) → p *ℤ (u *ℤ b *ℤ l +ℤ q *ℤ l) ≡ l *ℤ (p *ℤ (u *ℤ b +ℤ q))
+    factor p u b l q = simp ringℤ
 
-module _ (units : ℕ) (u : 0 < units) (b l : ℤ) (h : pos 1 ≤ℤ l) where
+module _ (units : ℕ) (u : 0 < units) (prints : ℕ) (b l : ℤ) (h : pos 1 ≤ℤ l) where
   abbrev raw : Frame
-  raw = frame (pos units) wholes b (record { closure = pos 0; distance = l })
+  raw = frame (pos units) (pos prints) b (record { closure = pos 0; distance = l })
 
-  raw_printed : (q s : ℤ) → printed_height raw q s ≡ round_even (pos units *ℤ b +ℤ q) units
+  raw_printed : (q s : ℤ) → printed_height raw q s ≡ round_even (pos prints *ℤ (pos units *ℤ b +ℤ q)) units
   raw_printed q s =
       let long : pos (nat_abs l) ≡ l = pos_abs (omega ints) in
-      (λ i. round_even ((raw_top (pos units) b l q s ∙ ap (λ (z : ℤ). z *ℤ (pos units *ℤ b +ℤ q)) (sym long)) i) (divisor i))
-      ∙ round_scale (pos units *ℤ b +ℤ q) units (nat_abs l) u (omega (ints, parts_abs l))
+      let top : ℤ = pos prints *ℤ (pos units *ℤ b +ℤ q) in
+      (λ i. round_even ((raw_top (pos prints) (pos units) b l q s ∙ ap (λ (z : ℤ). z *ℤ top) (sym long)) i) (divisor i))
+      ∙ round_scale top units (nat_abs l) u (omega (ints, parts_abs l))
     where
       divisor : nat_abs (pos units *ℤ l) ≡ nat_abs l * units
       divisor = abs_mul (pos units) l ∙ mul_comm units (nat_abs l)
 
-  raw_after : (q s g : ℤ) (xs : List Section) → map (λ (p : Point). p.height) (points_after raw q s g xs) ≡ raw_heights units (pos units *ℤ b +ℤ q) xs
+  raw_after : (q s g : ℤ) (xs : List Section) → map (λ (p : Point). p.height) (points_after raw q s g xs) ≡ raw_heights units prints (pos units *ℤ b +ℤ q) xs
   raw_after q s g [] = refl
   raw_after q s g (x ∷ xs) =
       let q₂ : ℤ = q +ℤ x.height in
       let s₂ : ℤ = s +ℤ x.distance in
       let m = sym (+ℤ_assoc (pos units *ℤ b) q x.height) in
-      λ i. (raw_printed q₂ s₂ ∙ ap (λ (z : ℤ). round_even z units) m) i ∷ (raw_after q₂ s₂ (printed_height raw q₂ s₂) xs ∙ ap (λ (z : ℤ). raw_heights units z xs) m) i
+      λ i. (raw_printed q₂ s₂ ∙ ap (λ (z : ℤ). round_even (pos prints *ℤ z) units) m) i ∷ (raw_after q₂ s₂ (printed_height raw q₂ s₂) xs ∙ ap (λ (z : ℤ). raw_heights units prints z xs) m) i
 
-  pub raw_heights_lem : (ss : List Section) → map (λ (p : Point). p.height) (section_points raw ss) ≡ raw_heights units (pos units *ℤ b) ss
-  raw_heights_lem ss = raw_after (pos 0) (pos 0) (pos 1 *ℤ b) ss ∙ ap (λ (z : ℤ). raw_heights units z ss) (+ℤ_idr (pos units *ℤ b))
+  pub raw_heights_lem : (ss : List Section) → map (λ (p : Point). p.height) (section_points raw ss) ≡ raw_heights units prints (pos units *ℤ b) ss
+  raw_heights_lem ss = raw_after (pos 0) (pos 0) (pos prints *ℤ b) ss ∙ ap (λ (z : ℤ). raw_heights units prints z ss) (+ℤ_idr (pos units *ℤ b))

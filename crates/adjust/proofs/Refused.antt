@@ -1,4 +1,4 @@
--- The adjustment call is refused with the lowest number that applies, by document 01's order 11, 13, 12, 5, and is taken where none applies.
+-- The adjustment call is refused with the lowest number that applies, by the documents' order 11, 13, 12, 5, 57, and is taken where none applies.
 use mathlib.Core.Path.{◌≡◌, refl}
 use mathlib.Core.List.{List}
 use Prim.Native.Nat.{ℕ, ◌<◌}
@@ -13,13 +13,13 @@ use Rattle.numbers.proofs.Tables.{first_lowest}
 use Rattle.adjust.specs.declared.Section.{Section}
 use Rattle.adjust.specs.Call.{adjust_tests, adjust_rank, adjust_refusal}
 
-pub adjust_lowest : (start end : ℤ) (ss : List Section) (places : ℕ) → Lowest adjust_rank (adjust_tests start end ss places) (adjust_refusal start end ss places)
+pub adjust_lowest : (start end prints : ℤ) (ss : List Section) (places : ℕ) → Lowest adjust_rank (adjust_tests start end prints ss places) (adjust_refusal start end prints ss places)
 unfolding adjust_refusal
-adjust_lowest start end ss places = first_lowest adjust_rank (adjust_tests start end ss places) 0 refl
+adjust_lowest start end prints ss places = first_lowest adjust_rank (adjust_tests start end prints ss places) 0 refl
 
-pub too_many : (start end : ℤ) (ss : List Section) (places : ℕ) → 64 < length ss → adjust_refusal start end ss places ≡ 11
+pub too_many : (start end prints : ℤ) (ss : List Section) (places : ℕ) → 64 < length ss → adjust_refusal start end prints ss places ≡ 11
 unfolding adjust_refusal
-too_many start end ss places h = rw (lt-leb (length ss) 64 h, lt-ltb 0 (length ss) (omega arith))
+too_many start end prints ss places h = rw (lt-leb (length ss) 64 h, lt-ltb 0 (length ss) (omega arith))
 
 -- the tests of sections, and the heights as the machine has them
 pub ruleset refusals = (nat_tests, to_z-of_z)

@@ -1,6 +1,6 @@
 -- One to 64 sections in the wider range between known heights: the sizes of ΣQ, L and W, and that a line is at least 1 long.
-use mathlib.Core.Path.{◌≡◌, refl, ap, ◌∙◌}
-use mathlib.Core.Bool.{Bool, true, false, cond, ◌&&◌}
+use mathlib.Core.Path.{◌≡◌, refl, ap, ◌∙◌, sym, subst}
+use mathlib.Core.Bool.{Bool, true, false, cond, ◌&&◌, not, ◌||◌}
 use mathlib.Core.List.{List, [], ◌∷◌}
 use Prim.Native.Nat.{ℕ, ◌*◌, ◌≤◌}
 use native.Mathlib.Omega.{arith}
@@ -10,7 +10,10 @@ use lib.IntN.{ℤ, pos, neg_ℤ, nat_abs}
 use mir.Syntax.{w64}
 use mir.Val.{SFits}
 use lib.Signed.{◌≤ℤ◌, le_z}
-use Rattle.numbers.proofs.Tests.{holds, fails, and_l, and_r, not-false}
+use Rattle.numbers.proofs.Tests.{holds, fails, and_l, and_r, not-false, by_test, is_true, or_l, or_r, not-true}
+use Rattle.std.specs.Prelude.{Some, None}
+use Rattle.numbers.specs.Numbers.{eq_z}
+use Rattle.numbers.proofs.Equal.{eq_z_eq}
 use Rattle.numbers.proofs.Parts.{ints, parts_add, parts_abs, test_le}
 use Rattle.numbers.proofs.Sizes.{abs_add}
 use Rattle.numbers.proofs.Tables.{failed}
@@ -24,7 +27,11 @@ use Rattle.adjust.specs.declared.terms.Terms.{Terms}
 use Rattle.adjust.specs.Sizes.{highest, most_q, most_r, most_units, most_prints, most_squared, most_sum_q, most_w}
 use Rattle.adjust.specs.Sections.{height_in_range}
 use Rattle.adjust.specs.Terms.{squared_of}
-use Rattle.adjust.specs.Line.{quarters, wholes, units_of, line_height, line_length, totals_by, frame, frame_of}
+use Rattle.adjust.specs.Line.{quarters, units_of, line_height, line_length, totals_by, frame, frame_of, totals, closing}
+use Rattle.adjust.specs.declared.prints.PrintUnit.{PrintUnit}
+use Rattle.adjust.specs.declared.prints.PrintUnit.TheVariants.{Millimetres, Tenths}
+use Rattle.adjust.specs.Prints.{prints_of, prints_allowed}
+use Rattle.adjust.specs.Frames.{figures_fit, line_totals, adjusted_of, line_figures}
 use Rattle.adjust.specs.Call.{adjust_tests, adjust_refusal}
 use Rattle.adjust.specs.code.Bounds.{OneTo, Between, Framed}
 use Rattle.adjust.proofs.Lists.{Fit, fit_head, fit_tail, strict_legs}
@@ -77,8 +84,16 @@ between_sizes {start = start} {end = end} {q = q} {ss = ss} u b f g h e =
 pub quarters_in : OneTo most_units quarters
 quarters_in = record { least = omega ints; most = omega arith }
 
-pub wholes_in : OneTo most_prints wholes
-wholes_in = record { least = omega ints; most = omega arith }
+-- and so is a print unit, by its name or by its number
+pub prints_in : (u : PrintUnit) → OneTo most_prints (pos (prints_of u))
+prints_in Millimetres = record { least = omega ints; most = omega arith }
+prints_in Tenths = record { least = omega ints; most = omega arith }
+
+pub allowed_in : (prints : ℤ) → prints_allowed prints ≡ true → OneTo most_prints prints
+allowed_in prints e =
+    by_test (eq_z prints (pos 1)) (λ t. t || eq_z prints (pos 10) ≡ true → OneTo most_prints prints)
+    (λ t g. subst (OneTo most_prints) (sym (eq_z_eq prints (pos 1) (is_true t))) (prints_in Millimetres))
+    (λ t g. subst (OneTo most_prints) (sym (eq_z_eq prints (pos 10) g)) (prints_in Tenths)) e
 
 -- and so are those by the staffs, and the square of their parts
 pub units_in : (c : Staffs) → OneTo most_units (units_of c)
@@ -99,10 +114,11 @@ framed_by terms {t} f = record { units = f.units; prints = f.prints; start = f.s
 
 -- ---- an adjustment that is not refused
 
-pub adjustable : (start end : ℤ) (ss : List Section) (places : ℕ) → adjust_refusal start end ss places ≡ 0 → Between start end ss × (length ss ≤ places)
+pub adjustable : (start end prints : ℤ) (ss : List Section) (places : ℕ) → adjust_refusal start end prints ss places ≡ 0
+    → Between start end ss × (length ss ≤ places) × OneTo most_prints prints
 unfolding adjust_refusal
-adjustable start end ss places e =
-    let test = failed (adjust_tests start end ss places) refl e in
+adjustable start end prints ss places e =
+    let test = failed (adjust_tests start end prints ss places) refl e in
     let count = not-false (ltb 0 (length ss) && leb (length ss) 64) (test 11) in
     let heights = not-false (height_in_range start && height_in_range end) (test 5) in (
       record {
@@ -116,4 +132,5 @@ adjustable start end ss places e =
         end_size = in_range_lem end (and_r (height_in_range start) (height_in_range end) heights);
       },
       nltb→le places (length ss) (fails (test 13)),
+      allowed_in prints (not-false (prints_allowed prints) (test 57)),
     )

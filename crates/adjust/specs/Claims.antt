@@ -1,11 +1,11 @@
--- What is promised of the points of a line: between two known heights (demand 3 of document 01), in any units, and of a spur (document 02, W-202).
-use Rattle.std.specs.Prelude.{◌≡◌, List, [], ◌∷◌, map, ℕ, ◌*◌, ◌≤◌, ℤ, pos, neg_ℤ, nat_abs, ◌+ℤ◌, ◌-ℤ◌, ◌*ℤ◌}
+-- What is promised of the points of a line: between two known heights (demand 3 of document 01), in any units, and of a spur (document 02, W-202). The adjustment call's heights are those of such points (`adjusted_heights`).
+use Rattle.std.specs.Prelude.{◌≡◌, List, [], ◌∷◌, map, ℕ, ◌*◌, ◌≤◌, ℤ, pos, neg_ℤ, nat_abs, ◌+ℤ◌, ◌-ℤ◌, ◌*ℤ◌, ◌≤ℤ◌}
 use Rattle.numbers.specs.Numbers.{sum, last_of}
 use Rattle.roots.specs.Round.{round_even}
 use Rattle.adjust.specs.declared.Section.{Section}
 use Rattle.adjust.specs.declared.Point.{Point}
 use Rattle.adjust.specs.declared.Frame.{Frame}
-use Rattle.adjust.specs.Line.{exact_top}
+use Rattle.adjust.specs.Line.{quarters, line_length, frame_of, exact_top, section_points}
 
 -- each printed height lies within half a print unit of the exact one, and each correction within one print unit of the exact share,
 -- −W × R / L: point by point with the sections, at running sums q and s
@@ -23,10 +23,10 @@ corrections ps = sum (map (λ (p : Point). p.correction) ps)
 abbrev pub last_height : ℤ → List Point → ℤ
 last_height h ps = last_of h (map (λ (p : Point). p.height) ps)
 
--- a spur's heights, 'start plus running Q, rounded to even': after the running sum q in these units to a millimetre, the start's height in it
-abbrev pub raw_heights : ℕ → ℤ → List Section → List ℤ
-raw_heights units q [] = []
-raw_heights units q (x ∷ xs) = round_even (q +ℤ x.height) units ∷ raw_heights units (q +ℤ x.height) xs
+-- a spur's heights, 'start plus running Q, rounded to even': after the running sum q in these units to a millimetre, the start's height in it, printed in so many units to a millimetre
+abbrev pub raw_heights : ℕ → ℕ → ℤ → List Section → List ℤ
+raw_heights units prints q [] = []
+raw_heights units prints q (x ∷ xs) = round_even (pos prints *ℤ (q +ℤ x.height)) units ∷ raw_heights units prints (q +ℤ x.height) xs
 
 -- the points after the start, of the sections ss up to the known height `end`
 pub record Sound (f : Frame) (end : ℤ) (ss : List Section) (ps : List Point) : Type 0 where
@@ -35,3 +35,9 @@ pub record Sound (f : Frame) (end : ℤ) (ss : List Section) (ps : List Point) :
   -- the last height is the known one, in print units
   pub last : last_height (f.prints *ℤ f.start) ps ≡ f.prints *ℤ end
   pub near : Near f (pos 0) (pos 0) ss ps
+
+-- document 02, W-214: whatever the print unit, of the adjustment call's points, in quarter mm; the sections that it takes are 1 long at least
+abbrev pub EveryAdjustment : Type 0
+EveryAdjustment =
+    (prints : ℕ) (start end : ℤ) (ss : List Section) → 1 ≤ prints → pos 1 ≤ℤ line_length ss
+    → let f : Frame = frame_of quarters (pos prints) start end ss in Sound f end ss (section_points f ss)

@@ -1,6 +1,7 @@
 pub mod Sizes
 pub mod Sections
 pub mod Terms
+pub mod Prints
 pub mod Line
 pub mod Kept
 pub mod Claims

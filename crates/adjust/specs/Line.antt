@@ -15,13 +15,11 @@ use Rattle.adjust.specs.declared.Verdict.TheVariants.{NotGiven, Within, Above}
 use Rattle.adjust.specs.declared.Frame.{Frame}
 use Rattle.adjust.specs.declared.terms.Terms.{Terms}
 use Rattle.adjust.specs.Terms.{squared_of, terms_of}
+use Rattle.adjust.specs.Prints.{prints_of}
 
--- the base's units to a millimetre: Q and W are in quarter mm, printed heights in whole mm
+-- the base's units to a millimetre: Q and W are in quarter mm
 abbrev pub quarters : ℤ
 quarters = pos 4
-
-abbrev pub wholes : ℤ
-wholes = pos 1
 
 -- those of Q and W by the staffs: where their constants were measured, in tenths of a millimetre, Q and W are in a tenth of the base's unit (document 02, W-203)
 abbrev pub units_of : Staffs → ℤ
@@ -60,11 +58,15 @@ frame units prints start t = record { units = units; prints = prints; start = st
 abbrev pub frame_of : ℤ → ℤ → ℤ → ℤ → List Section → Frame
 frame_of units prints start end ss = frame units prints start (totals units start end ss)
 
--- of a line opened as o, up to its end height, which is a placeholder where the end is not known
-abbrev pub line_frame : Opening → ℤ → List Section → Frame
-line_frame o end ss =
+-- of a line opened as o, up to its end height, which is a placeholder where the end is not known, in any print unit: so many to a millimetre
+abbrev pub frame_by : ℕ → Opening → ℤ → List Section → Frame
+frame_by prints o end ss =
     let units : ℤ = units_of o.staffs in
-    frame units wholes o.start.height (totals_by (terms_of o.class) (totals units o.start.height end ss))
+    frame units (pos prints) o.start.height (totals_by (terms_of o.class) (totals units o.start.height end ss))
+
+-- and in its own
+abbrev pub line_frame : Opening → ℤ → List Section → Frame
+line_frame o end ss = frame_by (prints_of o.print_unit) o end ss
 
 -- the exact height at running sums q (of Q) and s (of R) is exact_top / (units × total) print units
 abbrev pub exact_top : Frame → ℤ → ℤ → ℤ
@@ -123,9 +125,10 @@ pub record Closing : Type 0 where
   pub summary : Summary
   pub points : List Point
 
-abbrev pub closing : Opening → ℤ → List Section → Closing
-closing o end ss =
-    let f : Frame = line_frame o end ss in
+-- in any print unit
+abbrev pub closing_by : ℕ → Opening → ℤ → List Section → Closing
+closing_by prints o end ss =
+    let f : Frame = frame_by prints o end ss in
     let terms : Terms = terms_of o.class in
     let t : ℤ = accidental_sum terms (squared_of o.staffs) ss in
     record {
@@ -133,3 +136,7 @@ closing o end ss =
       summary = record { closure = f.prints *ℤ f.closure; distance = f.total; count = length ss; accidental = t; verdict = verdict terms (length ss) t };
       points = points f o.start.number ss;
     }
+
+-- and in the line's own
+abbrev pub closing : Opening → ℤ → List Section → Closing
+closing o end ss = closing_by (prints_of o.print_unit) o end ss

@@ -1,2 +1,3 @@
 -- What only contracts and proofs use: no other file of specs/ does.
 pub mod Bounds
+pub mod Named

@@ -5,15 +5,22 @@ ghost use Rattle.records.specs.Refusals.{number_of};
 ghost use Rattle.adjust.specs.declared.Point.{Point};
 ghost use Rattle.adjust.specs.Call.{adjust_refusal, heights_after};
 
+use super::prints::print_unit_named;
 use super::ranges::any_out_of_range;
 use super::sums::totals_between;
-use super::{Frame, Point, QUARTERS, Section, WHOLES, height_in_range};
+use super::{Frame, Point, QUARTERS, Section, height_in_range};
 use records::Refusal;
 
 // The refusal of the call for a height list of so many places.
 #[tactic(auto, using(crate::proofs::Refused::refusals), unfolding(crate::specs::Call::adjust_refusal))]
-fn adjust_refusal(start: i64, end: i64, sections: &[Section], places: usize) -> Result<(), Refusal>
-    ensures { number_of result ≡ adjust_refusal start end sections.now places }
+fn adjust_refusal(
+    start: i64,
+    end: i64,
+    prints: i64,
+    sections: &[Section],
+    places: usize,
+) -> Result<(), Refusal>
+    ensures { number_of result ≡ adjust_refusal start end prints sections.now places }
 {
     if sections.is_empty() || 64 < sections.len() {
         return Err(Refusal::SectionCount);
@@ -26,6 +33,9 @@ fn adjust_refusal(start: i64, end: i64, sections: &[Section], places: usize) -> 
     }
     if !height_in_range(start) || !height_in_range(end) {
         return Err(Refusal::KnownHeight);
+    }
+    if print_unit_named(prints).is_none() {
+        return Err(Refusal::PrintUnit);
     }
     Ok(())
 }
@@ -40,20 +50,21 @@ fn put_heights(points: &[Point], heights: &mut [i64])
     }
 }
 
-// The adjusted heights of the sections between two known heights, one a section, into a lent list.
+// The adjusted heights of the sections between two known heights in mm, one a section, into a lent list: printed in so many units to a millimetre, 1 or 10.
 #[tactic(auto, using(crate::proofs::Taken::taken), unfolding(crate::specs::Call::heights_after))]
 pub fn adjust(
     start: i64,
     end: i64,
+    prints: i64,
     sections: &[Section],
     heights: &mut [i64],
 ) -> Result<(), Refusal>
-    ensures number { number_of result ≡ adjust_refusal start end sections.now (length heights.old) }
-    ensures heights { heights.new ≡ heights_after start end sections.now heights.old }
+    ensures number { number_of result ≡ adjust_refusal start end prints sections.now (length heights.old) }
+    ensures heights { heights.new ≡ heights_after start end prints sections.now heights.old }
 {
-    adjust_refusal(start, end, sections, heights.len())?;
+    adjust_refusal(start, end, prints, sections, heights.len())?;
     let t = totals_between(QUARTERS, start, end, sections);
-    let points = Frame::new(QUARTERS, WHOLES, start, t).points(0, sections);
+    let points = Frame::new(QUARTERS, prints, start, t).points(0, sections);
     put_heights(&points[1..=sections.len()], heights);
     Ok(())
 }

@@ -43,16 +43,16 @@ fn sections_from(legs: &[Leg]) -> [Section; 64]
     places
 }
 
-// The adjusted heights of the lent legs between two known heights, one a leg, into the lent list; the answer is document 01's number, 0 for a
-// call that is taken. More than 64 legs are refused before they are read. A number and no `Result`: C has the answer so.
+// The adjusted heights of the lent legs between two known heights, one a leg, printed in so many units to a millimetre, into the lent list; the answer is the
+// documents' number, 0 for a call that is taken. More than 64 legs are refused before they are read. A number and no `Result`: C has the answer so.
 #[tactic(auto, using(crate::proofs::Legs::legs))]
-pub fn level_adjust(legs: &[Leg], start: i64, end: i64, heights: &mut [i64]) -> u8
-    ensures number { result ≡ adjust_refusal start end (leg_sections legs.now) (length heights.old) }
-    ensures heights { heights.new ≡ heights_after start end (leg_sections legs.now) heights.old }
+pub fn level_adjust(legs: &[Leg], start: i64, end: i64, prints: i64, heights: &mut [i64]) -> u8
+    ensures number { result ≡ adjust_refusal start end prints (leg_sections legs.now) (length heights.old) }
+    ensures heights { heights.new ≡ heights_after start end prints (leg_sections legs.now) heights.old }
 {
     if 64 < legs.len() {
         return Refusal::SectionCount.number();
     }
     let places = sections_from(legs);
-    number_of(adjust(start, end, &places[..legs.len()], heights))
+    number_of(adjust(start, end, prints, &places[..legs.len()], heights))
 }

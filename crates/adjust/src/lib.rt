@@ -14,17 +14,17 @@ pub mod call;
 pub mod entry;
 mod heights;
 pub mod keeping;
+pub mod prints;
 mod ranges;
 mod sums;
 pub mod terms;
 
+use prints::PrintUnit;
 use station::{Instrument, Staffs, scale_of};
 use terms::{Class, Terms};
 
-// The base's units to a millimetre, by which the adjustment call always goes: Q and W in quarter mm, printed heights in whole mm.
+// The base's units to a millimetre, by which the adjustment call always goes: Q and W in quarter mm.
 const QUARTERS: i64 = 4;
-
-const WHOLES: i64 = 1;
 
 #[derive(Clone, Copy)]
 pub struct Benchmark {
@@ -32,13 +32,14 @@ pub struct Benchmark {
     pub height: i64,
 }
 
-// What a line is opened with, its staffs' constants, and what was done since: whether its level's collimation was tested, and whether any call was taken.
+// What a line is opened with, its staffs' constants and its print unit among it, and what was done since: whether its level's collimation was tested, and whether any call was taken.
 #[derive(Clone, Copy)]
 pub struct Opening {
     pub class: Class,
     pub instrument: Instrument,
     pub start: Benchmark,
     pub staffs: Staffs,
+    pub print_unit: PrintUnit,
     pub collimated: bool,
     pub touched: bool,
 }
@@ -101,7 +102,7 @@ impl Sections {
     }
 }
 
-// A benchmark of the closed line: its distance from the start in half dm, the correction of the section before it in quarter mm, its height in mm.
+// A benchmark of the closed line: its distance from the start in half dm, the correction of the section before it in quarter mm, its height in mm. Both are in tenths of these where the print unit is.
 #[derive(Clone, Copy, Default, PartialEq, Eq)]
 pub struct Point {
     pub number: i64,
@@ -128,7 +129,7 @@ impl Verdict {
     }
 }
 
-// W in quarter mm, L in half dm, n, T in hundredths of mm² per km, and the verdict.
+// W, in the corrections' unit, L in half dm, n, T in hundredths of mm² per km, and the verdict.
 #[derive(Clone, Copy, Default)]
 pub struct Summary {
     pub closure: i64,
@@ -215,7 +216,7 @@ fn closing_of(opening: &Opening, end: i64, kept: &SectionSums, sections: &[Secti
         terms,
         sums::totals_from(units, start.height, end, kept.height, kept.distance),
     );
-    let f = Frame::new(units, WHOLES, start.height, t);
+    let f = Frame::new(units, opening.print_unit.prints(), start.height, t);
     let summary = Summary {
         closure: f.prints * f.closure,
         distance: f.total,

@@ -6,7 +6,7 @@ use mir.Syntax.{w64}
 use mir.Val.{SFits}
 use Rattle.numbers.specs.Numbers.{filled}
 use Rattle.numbers.proofs.Machine.{stored, stored_id}
-use Rattle.numbers.proofs.Chain.{Value, known, mul, kept}
+use Rattle.numbers.proofs.Chain.{Value, known, mul, fits, kept}
 use Rattle.adjust.specs.declared.Section.{Section}
 use Rattle.adjust.specs.declared.SectionSums.{SectionSums}
 use Rattle.adjust.specs.declared.Frame.{Frame}
@@ -14,12 +14,12 @@ use Rattle.station.specs.declared.Staffs.TheVariants.{Nominal}
 use Rattle.adjust.specs.declared.terms.Terms.{Terms}
 use Rattle.adjust.specs.Sizes.{most_units, most_prints, most_allowed, most_w}
 use Rattle.adjust.specs.Terms.{terms_of}
-use Rattle.adjust.specs.Line.{wholes, units_of, closure_by, totals_by, frame, line_frame, points, verdict}
+use Rattle.adjust.specs.Line.{units_of, closure_by, totals_by, frame, line_frame, points, verdict, totals, accidental_sum}
 use Rattle.adjust.specs.Kept.{totals_from}
 use Rattle.adjust.specs.Frames.{no_point}
 use Rattle.adjust.specs.code.Bounds.{OneTo, Framed}
 use Rattle.adjust.proofs.Classes.{row}
-use Rattle.adjust.proofs.Sized.{between_sizes, units_in, wholes_in, framed, framed_by}
+use Rattle.adjust.proofs.Sized.{between_sizes, units_in, framed, framed_by, prints_in}
 use Rattle.adjust.proofs.closing_of.Goals as goal
 use Rattle.adjust.proofs.closing_of.Goals.{After-new-f}
 
@@ -31,19 +31,21 @@ module _ (c : After-new-f) where
   line = line_frame c.args.opening.now c.args.end ss
 
   framed_line : Framed line
-  framed_line = framed_by (terms_of c.args.opening.now.class) (framed (units_in c.args.opening.now.staffs) wholes_in c.requires.0)
+  framed_line = framed_by (terms_of c.args.opening.now.class) (framed (units_in c.args.opening.now.staffs) (prints_in c.args.opening.now.print_unit) c.requires.0)
 
   frame_is : c.new-f.result ≡ line
   frame_is =
       let start : SFits w64 c.args.opening.now.start.height = search rules in
       let u : SFits w64 c.units_of-units.result = search rules in
+      let p : SFits w64 c.prints.result = search rules in
       let h = stored_id start in
+      let prints = stored_id p ∙ c.prints.ensures in
       let units = stored_id u ∙ c.units_of-units.ensures in
       let q : SFits w64 c.args.kept.now.height = search rules in
       let d : SFits w64 c.args.kept.now.distance = search rules in
       let ends = c.totals_from.ensures ∙ (λ i. record { closure = closure_by (units i) (h i) (stored_id c.ranges.end i) (stored_id q i); distance = stored_id d i })
       ∙ ap (totals_from (units_of c.args.opening.now.staffs) c.args.opening.now.start.height c.args.end) c.requires.1 in
-      c.new-f.ensures ∙ (λ i. frame (units i) wholes (h i) ((c.totals_by-t.ensures ∙ (λ j. totals_by (c.terms-terms.ensures j) (ends j))) i))
+      c.new-f.ensures ∙ (λ i. frame (units i) (prints i) (h i) ((c.totals_by-t.ensures ∙ (λ j. totals_by (c.terms-terms.ensures j) (ends j))) i))
 
 pub totals_from-requires : goal.totals_from-requires
 totals_from-requires c =
@@ -68,6 +70,9 @@ points-requires c =
 -- W as printed
 printed : (f : Frame) → Framed f → Value (stored f.prints *ℤ stored f.closure) (f.prints *ℤ f.closure) (most_prints * most_w)
 printed f h = mul (known f.prints h.prints.most tt) (known f.closure h.closure tt)
+
+pub overflow_mul-summary : goal.overflow_mul-summary
+overflow_mul-summary c = let f = (goal.at.overflow_mul-summary c).After-new-f in fits (printed c.new-f.result (subst Framed (sym (frame_is f)) (framed_line f))) tt
 
 pub returns : goal.returns
 returns c =
