@@ -10,8 +10,7 @@ use lib.IntN.{ℤ, pos, neg_ℤ, nat_abs}
 use mir.Syntax.{w64}
 use mir.Val.{SFits}
 use lib.Signed.{◌≤ℤ◌, le_z}
-use Rattle.numbers.proofs.Tests.{holds, fails, and_l, and_r, not-false, by_test, is_true, or_l, or_r, not-true}
-use Rattle.std.specs.Prelude.{Some, None}
+use Rattle.numbers.proofs.Tests.{holds, fails, and_l, and_r, not-false, by_test, is_true}
 use Rattle.numbers.specs.Numbers.{eq_z}
 use Rattle.numbers.proofs.Equal.{eq_z_eq}
 use Rattle.numbers.proofs.Parts.{ints, parts_add, parts_abs, test_le}
@@ -27,11 +26,10 @@ use Rattle.adjust.specs.declared.terms.Terms.{Terms}
 use Rattle.adjust.specs.Sizes.{highest, most_q, most_r, most_units, most_prints, most_squared, most_sum_q, most_w}
 use Rattle.adjust.specs.Sections.{height_in_range}
 use Rattle.adjust.specs.Terms.{squared_of}
-use Rattle.adjust.specs.Line.{quarters, units_of, line_height, line_length, totals_by, frame, frame_of, totals, closing}
+use Rattle.adjust.specs.Line.{quarters, units_of, line_height, line_length, totals_by, frame, frame_of}
 use Rattle.adjust.specs.declared.prints.PrintUnit.{PrintUnit}
 use Rattle.adjust.specs.declared.prints.PrintUnit.TheVariants.{Millimetres, Tenths}
 use Rattle.adjust.specs.Prints.{prints_of, prints_allowed}
-use Rattle.adjust.specs.Frames.{figures_fit, line_totals, adjusted_of, line_figures}
 use Rattle.adjust.specs.Call.{adjust_tests, adjust_refusal}
 use Rattle.adjust.specs.code.Bounds.{OneTo, Between, Framed}
 use Rattle.adjust.proofs.Lists.{Fit, fit_head, fit_tail, strict_legs}

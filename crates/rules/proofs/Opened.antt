@@ -30,21 +30,21 @@ instrument k = go (eq_z k (pos 3)) (eq_z k (pos 1))
     go false true = refl
     go false false = refl
 
-module _ (v : LineState) (number height : ℤ) where
+module _ (v : LineState) (number height prints : ℤ) where
   by_names : (s t : Bool) (class : Class) (z : Instrument)
-      → named_refusal v (cond s (Some class) None) (cond t (Some z) None) number height ≡ cond (not (s && t)) 3 (start_refusal v number height)
+      → named_refusal v (cond s (Some class) None) (cond t (Some z) None) number height prints ≡ cond (not (s && t)) 3 (start_refusal v number height prints)
   by_names true true class z = refl
   by_names true false class z = refl
   by_names false t class z = refl
 
-  pub line_refusal : (o k : ℤ) → named_refusal v (class_named o) (instrument_named k) number height ≡ book_refusal v (open_line o k number height)
+  pub line_refusal : (o k : ℤ) → named_refusal v (class_named o) (instrument_named k) number height prints ≡ book_refusal v (open_line o k number height prints)
   unfolding book_refusal
   line_refusal o k =
-      (λ i. named_refusal v (line_class o i) (instrument k i) number height)
+      (λ i. named_refusal v (line_class o i) (instrument k i) number height prints)
       ∙ by_names (eq_z o (pos 3) || eq_z o (pos 4)) (eq_z k (pos 1) || eq_z k (pos 3)) (class_of o) (instrument_of k)
 
-  pub spur_refusal : (o k : ℤ) → named_refusal v (spur_named o) (instrument_named k) number height ≡ book_refusal v (open_spur o k number height)
+  pub spur_refusal : (o k : ℤ) → named_refusal v (spur_named o) (instrument_named k) number height prints ≡ book_refusal v (open_spur o k number height prints)
   unfolding book_refusal
   spur_refusal o k =
-      (λ i. named_refusal v (spur_named o) (instrument k i) number height)
+      (λ i. named_refusal v (spur_named o) (instrument k i) number height prints)
       ∙ by_names (eq_z o (pos 4)) (eq_z k (pos 1) || eq_z k (pos 3)) Spur (instrument_of k)

@@ -32,13 +32,13 @@ pub record Tables (v : LineState) (c : Call) : Type 0 where
   pub book_rising : rises rank 0 (book_tests v c) ≡ true
 
 pub tables : (v : LineState) (c : Call) → Tables v c
-tables v (open_line order instrument number height) = search rules
+tables v (open_line order instrument number height prints) = search rules
 tables v (station kb kf readings) = search rules
 tables v (end_run number) = search rules
 tables v drop_run = search rules
 tables v drop_section = search rules
 tables v (close_line number end) = search rules
-tables v (open_spur order instrument number height) = search rules
+tables v (open_spur order instrument number height prints) = search rules
 tables v (close_spur number) = search rules
 tables v (collimation x) = search rules
 tables v (constants first second) = search rules

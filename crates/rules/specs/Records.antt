@@ -1,4 +1,4 @@
--- The call of each record: its numbers are the call's arguments, in order (document 01, 'The text book and the report'; document 02, W-202 to W-204 and W-210). Numbers that a record does not
+-- The call of each record: its numbers are the call's arguments, in order (document 01, 'The text book and the report'; document 02, W-202 to W-204, W-210 and W-214). Numbers that a record does not
 -- have are not looked at.
 use Rattle.std.specs.Prelude.{◌≡◌, refl, List, [], ◌∷◌, ℕ, ◌+◌, get_or, ℤ, pos}
 use Rattle.records.specs.declared.Tag.{Tag}
@@ -14,16 +14,16 @@ argument v k = get_or v k (pos 0)
 abbrev pub readings : List ℤ → ℕ → List ℤ
 readings v k = argument v k ∷ argument v (k + 1) ∷ argument v (k + 2) ∷ argument v (k + 3) ∷ []
 
--- LIN and SPR: order, instrument, start number and height. STA: the constant and the readings of the back staff, then of the fore staff. RUN: the number.
+-- LIN and SPR: order, instrument, start number and height, and the print unit. STA: the constant and the readings of the back staff, then of the fore staff. RUN: the number.
 -- END: the last number and the end height. FIN: the last number. ANG: A1, B1, A2, B2, D1 and D2. KON: the constants of the staffs 4,687 and 4,787. DRR, DRS and LFT: none
 abbrev pub call_of : Tag → List ℤ → Call
-call_of Lin v = open_line (argument v 0) (argument v 1) (argument v 2) (argument v 3)
+call_of Lin v = open_line (argument v 0) (argument v 1) (argument v 2) (argument v 3) (argument v 4)
 call_of Sta v = station (argument v 0) (argument v 5) (readings v 1 ∷ readings v 6 ∷ [])
 call_of Run v = end_run (argument v 0)
 call_of Drr v = drop_run
 call_of Drs v = drop_section
 call_of End v = close_line (argument v 0) (argument v 1)
-call_of Spr v = open_spur (argument v 0) (argument v 1) (argument v 2) (argument v 3)
+call_of Spr v = open_spur (argument v 0) (argument v 1) (argument v 2) (argument v 3) (argument v 4)
 call_of Fin v = close_spur (argument v 0)
 call_of Ang v = collimation (argument v 0 ∷ argument v 1 ∷ argument v 2 ∷ argument v 3 ∷ argument v 4 ∷ argument v 5 ∷ [])
 call_of Kon v = constants (argument v 0) (argument v 1)

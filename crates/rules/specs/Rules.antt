@@ -1,5 +1,5 @@
 -- The rules: each call's tests, each beside its refusal number and in the order in which they are made, and what a call that is taken leaves
--- (document 01, 'Runs, sections and the standing list' and the two lists of refusals; document 02, W-201 to W-204 and W-210).
+-- (document 01, 'Runs, sections and the standing list' and the two lists of refusals; document 02, W-201 to W-204, W-210 and W-214).
 use Rattle.std.specs.Prelude.{Bool, true, false, not, cond, ◌&&◌, ◌||◌, List, [], ◌∷◌, ◌++◌, ℕ, ◌*◌, ◌%◌, length, leb, eqb, ℤ, pos, nat_abs, Some, None}
 use Rattle.std.specs.declared.option.Option.{Option}
 use Rattle.std.specs.Int.Signed.{le_z, lt_z}
@@ -22,6 +22,9 @@ use Rattle.adjust.specs.declared.terms.Class.TheVariants.{Third, Fourth, Spur}
 use Rattle.adjust.specs.declared.terms.Root.{Root}
 use Rattle.adjust.specs.declared.terms.Terms.{Terms}
 use Rattle.adjust.specs.Terms.{order_of, terms_of, terms_by}
+use Rattle.adjust.specs.declared.prints.PrintUnit.{PrintUnit}
+use Rattle.adjust.specs.declared.prints.PrintUnit.TheVariants.{Tenths}
+use Rattle.adjust.specs.Prints.{prints_allowed, print_unit_of}
 use Rattle.adjust.specs.Line.{units_of, totals}
 use Rattle.adjust.specs.Kept.{no_sums, sums_plus, sums_minus, unsummed}
 use Rattle.rules.specs.declared.Stage.TheVariants.{Open, Closed}
@@ -75,19 +78,22 @@ closure_within terms w l = is_within terms.closing.a w terms.closing.b l
 -- ---- the tests
 
 -- of opening, with an order that is or is not one of those that may be opened so
-abbrev pub open_tests : Bool → ℤ → ℤ → ℤ → List (ℕ × Bool)
-open_tests ordered instrument number height =
-    (3, not (ordered && (eq_z instrument (pos 1) || eq_z instrument (pos 3)))) ∷ (4, not (number_in_range number)) ∷ (5, not (height_in_range height)) ∷ []
+abbrev pub open_tests : Bool → ℤ → ℤ → ℤ → ℤ → List (ℕ × Bool)
+open_tests ordered instrument number height prints =
+    (3, not (ordered && (eq_z instrument (pos 1) || eq_z instrument (pos 3))))
+    ∷ (4, not (number_in_range number))
+    ∷ (5, not (height_in_range height))
+    ∷ (57, not (prints_allowed prints)) ∷ []
 
 -- what the input alone causes
 abbrev pub input_tests : Call → List (ℕ × Bool)
-input_tests (open_line order instrument number height) = open_tests (eq_z order (pos 3) || eq_z order (pos 4)) instrument number height
+input_tests (open_line order instrument number height prints) = open_tests (eq_z order (pos 3) || eq_z order (pos 4)) instrument number height prints
 input_tests (station kb kf readings) = reading_tests (station_of kb kf readings)
 input_tests (end_run number) = (4, not (number_in_range number)) ∷ []
 input_tests drop_run = []
 input_tests drop_section = []
 input_tests (close_line number end) = (4, not (number_in_range number)) ∷ (5, not (height_in_range end)) ∷ []
-input_tests (open_spur order instrument number height) = open_tests (eq_z order (pos 4)) instrument number height
+input_tests (open_spur order instrument number height prints) = open_tests (eq_z order (pos 4)) instrument number height prints
 input_tests (close_spur number) = (4, not (number_in_range number)) ∷ []
 input_tests (collimation x) = range_tests (collimation_of x)
 input_tests (constants first second) = (42, not (constants_in_range first second)) ∷ []
@@ -130,7 +136,7 @@ close_tests v other number unlike =
 
 -- what the book's state causes
 abbrev pub state_tests : LineState → Call → List (ℕ × Bool)
-state_tests v (open_line order instrument number height) = open_state v
+state_tests v (open_line order instrument number height prints) = open_state v
 state_tests v (station kb kf readings) = station_tests v.line (is_shut v) kb (figures_of v.line.opening.staffs (station_of kb kf readings))
 state_tests v (end_run number) =
     (21, not (is_open v.line.stage) || is_shut v)
@@ -142,7 +148,7 @@ state_tests v drop_run = (21, not (is_open v.line.stage)) ∷ []
 state_tests v drop_section = (21, not (is_open v.line.stage)) ∷ []
 state_tests v (close_line number end) =
     close_tests v (not (terms_of v.line.opening.class).tied) number (is_shut v && not (eq_z end v.line.opening.start.height)) ++ line_tests v end
-state_tests v (open_spur order instrument number height) = open_state v
+state_tests v (open_spur order instrument number height prints) = open_state v
 state_tests v (close_spur number) = close_tests v (terms_of v.line.opening.class).tied number false
 -- a test is taken once, and within 20'' (document 02, W-204)
 state_tests v (collimation x) = (21, not (is_open v.line.stage)) ∷ (45, v.line.opening.collimated || not (within_angle (collimation_of x))) ∷ []
@@ -153,13 +159,13 @@ state_tests v lift_section =
     (21, not (is_open v.line.stage)) ∷ (53, is_empty v.sections || not (eqb v.line.present.count 0) || is_return v.line.waiting) ∷ []
 
 abbrev pub is_closing : Call → Bool
-is_closing (open_line order instrument number height) = false
+is_closing (open_line order instrument number height prints) = false
 is_closing (station kb kf readings) = false
 is_closing (end_run number) = false
 is_closing drop_run = false
 is_closing drop_section = false
 is_closing (close_line number end) = true
-is_closing (open_spur order instrument number height) = false
+is_closing (open_spur order instrument number height prints) = false
 is_closing (close_spur number) = true
 is_closing (collimation x) = false
 is_closing (constants first second) = false
@@ -204,9 +210,9 @@ book_tests v c = input_tests c ++ ((20, broken v c) ∷ state_tests v c)
 unfoldable pub book_refusal : LineState → Call → ℕ
 book_refusal v c = first_of (book_tests v c)
 
--- the order in which the numbers are tested: as they stand, but 31 before 30, 43 in the stead of 21, 41, 45, 46 and 53 directly after it, and 42 and 44 with the input's numbers
+-- the order in which the numbers are tested: as they stand, but 31 before 30, 43 in the stead of 21, 41, 45, 46 and 53 directly after it, and 42, 44 and 57 with the input's numbers
 abbrev pub rank : ℕ → ℕ
-rank n = cond (eqb n 31) 299 (cond (eqb n 43) 210 (cond (eqb n 41 || eqb n 45 || eqb n 46 || eqb n 53) 211 (cond (eqb n 42 || eqb n 44) 56 (10 * n))))
+rank n = cond (eqb n 31) 299 (cond (eqb n 43) 210 (cond (eqb n 41 || eqb n 45 || eqb n 46 || eqb n 53) 211 (cond (eqb n 42 || eqb n 44 || eqb n 57) 56 (10 * n))))
 
 -- ---- what a call that is taken leaves
 
@@ -249,16 +255,16 @@ abbrev pub begun : Opening → Line
 begun o = record { stage = Open; opening = o; end = pos 0; sums = no_sums; waiting = None; present = no_run }
 
 -- what a line is opened with: the staffs have their nominal constants until others are given, and the level is not tested
-abbrev pub opening_with : Class → Instrument → ℤ → ℤ → Opening
-opening_with class instrument number height =
-    record { class = class; instrument = instrument; start = record { number = number; height = height }; staffs = Nominal; collimated = false; touched = false }
+abbrev pub opening_with : Class → Instrument → ℤ → ℤ → PrintUnit → Opening
+opening_with class instrument number height unit =
+    record { class = class; instrument = instrument; start = record { number = number; height = height }; staffs = Nominal; print_unit = unit; collimated = false; touched = false }
 
-abbrev pub opening_of : Class → ℤ → ℤ → ℤ → Opening
-opening_of class instrument number height = opening_with class (instrument_of instrument) number height
+abbrev pub opening_of : Class → ℤ → ℤ → ℤ → ℤ → Opening
+opening_of class instrument number height prints = opening_with class (instrument_of instrument) number height (print_unit_of prints)
 
 -- where no line is opened: placeholders, which decide nothing
 abbrev pub unopened : Opening
-unopened = opening_with Fourth Ds3 (pos 0) (pos 0)
+unopened = opening_with Fourth Ds3 (pos 0) (pos 0) Tenths
 
 abbrev pub collimated : Opening → Opening
 collimated o = record o { collimated = true; touched = true }
@@ -273,7 +279,7 @@ abbrev pub closed_at : Line → ℤ → Line
 closed_at l end = record l { stage = Closed; opening = touched l.opening; end = end }
 
 abbrev pub taken : LineState → Call → LineState
-taken v (open_line order instrument number height) = record { line = begun (opening_of (class_of order) instrument number height); sections = [] }
+taken v (open_line order instrument number height prints) = record { line = begun (opening_of (class_of order) instrument number height prints); sections = [] }
 taken v (station kb kf readings) =
     record {
       line = with_runs v.line v.line.waiting (with_station v.line.present (figures_of v.line.opening.staffs (station_of kb kf readings)) kf);
@@ -283,7 +289,7 @@ taken v (end_run number) = run_ended v number
 taken v drop_run = record { line = with_runs v.line v.line.waiting no_run; sections = v.sections }
 taken v drop_section = record { line = with_runs v.line None no_run; sections = v.sections }
 taken v (close_line number end) = record { line = closed_at v.line end; sections = v.sections }
-taken v (open_spur order instrument number height) = record { line = begun (opening_of Spur instrument number height); sections = [] }
+taken v (open_spur order instrument number height prints) = record { line = begun (opening_of Spur instrument number height prints); sections = [] }
 -- a spur has no end height: 0 stands for it
 taken v (close_spur number) = record { line = closed_at v.line (pos 0); sections = v.sections }
 taken v (collimation x) = record { line = with_opening v.line (collimated v.line.opening); sections = v.sections }

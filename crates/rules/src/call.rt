@@ -7,12 +7,13 @@ use records::{Record, Tag};
 // The numbers are what a caller gives, in any range: the rules judge them.
 #[derive(Clone, Copy, PartialEq, Eq)]
 pub enum Call {
-    // Open the line: order 3 or 4, instrument 3 for DS3 or 1 for DS1 and DS05, the start's number and its height in mm.
+    // Open the line: order 3 or 4, instrument 3 for DS3 or 1 for DS1 and DS05, the start's number and its height in mm, and the print unit, 1 or 10 to the millimetre.
     OpenLine {
         order: i64,
         instrument: i64,
         number: i64,
         height: i64,
+        prints: i64,
     },
     // A station: the constants and the readings, back and fore.
     Station {
@@ -39,6 +40,7 @@ pub enum Call {
         instrument: i64,
         number: i64,
         height: i64,
+        prints: i64,
     },
     // Close the spur on its last benchmark.
     CloseSpur {
@@ -68,6 +70,7 @@ impl From<Record> for Call {
                 instrument: b,
                 number: c,
                 height: d,
+                prints: e,
             },
             Tag::Sta => Call::Station {
                 kb: a,
@@ -83,6 +86,7 @@ impl From<Record> for Call {
                 instrument: b,
                 number: c,
                 height: d,
+                prints: e,
             },
             Tag::Fin => Call::CloseSpur { number: a },
             Tag::Ang => Call::Collimation {

@@ -1,13 +1,16 @@
 // Opening, a line or a spur: what its numbers name, and its refusals.
 ghost use Rattle.std.specs.Prelude.{◌≡◌, MatchOption, IfOk, ⊤};
+ghost use Rattle.numbers.specs.Tables.{first_of};
 ghost use Rattle.records.specs.Refusals.{number_of};
+ghost use Rattle.adjust.specs.Prints.{print_unit_of};
 ghost use Rattle.rules.specs.LineState.{state_of};
 ghost use Rattle.rules.specs.Rules.{opening_with};
-ghost use Rattle.rules.specs.code.Opened.{class_named, spur_named, instrument_named, start_refusal, named_refusal};
+ghost use Rattle.rules.specs.code.Opened.{class_named, spur_named, instrument_named, fresh_tests, start_refusal, named_refusal};
 
 use super::refusals::check_number;
 use super::standing::Standing;
 use super::{Book, Stage};
+use adjust::prints::{PrintUnit, print_unit_named};
 use adjust::terms::Class;
 use adjust::{Benchmark, Opening};
 use records::Refusal;
@@ -46,31 +49,48 @@ pub fn instrument_named(number: i64) -> Option<Instrument>
 }
 
 // What a line is opened with.
-pub fn opening_with(class: Class, instrument: Instrument, number: i64, height: i64) -> Opening
-    ensures { result ≡ opening_with class instrument number height }
+pub fn opening_with(
+    class: Class,
+    instrument: Instrument,
+    number: i64,
+    height: i64,
+    print_unit: PrintUnit,
+) -> Opening
+    ensures { result ≡ opening_with class instrument number height print_unit }
 {
     Opening {
         class,
         instrument,
         start: Benchmark { number, height },
         staffs: Staffs::Nominal,
+        print_unit,
         collimated: false,
         touched: false,
     }
 }
 
-// Of the start's number and height, and of the book.
-fn check_start(b: &Book, number: i64, height: i64) -> Result<(), Refusal>
-    ensures { number_of result ≡ start_refusal (state_of b.now) number height }
+// Of the book: only a fresh one is opened.
+fn check_fresh(b: &Book) -> Result<(), Refusal>
+    ensures { number_of result ≡ first_of (fresh_tests (state_of b.now)) }
+{
+    if Standing::of(b)?.line.stage != Stage::Fresh {
+        return Err(Refusal::Stage);
+    }
+    Ok(())
+}
+
+// Of the start's number and height, the print unit, and of the book: the print unit that is named.
+fn check_start(b: &Book, number: i64, height: i64, prints: i64) -> Result<PrintUnit, Refusal>
+    ensures number { number_of result ≡ start_refusal (state_of b.now) number height prints }
+    ensures unit { IfOk result (λ u. u ≡ print_unit_of prints) }
 {
     check_number(number)?;
     if !adjust::height_in_range(height) {
         return Err(Refusal::KnownHeight);
     }
-    if Standing::of(b)?.line.stage != Stage::Fresh {
-        return Err(Refusal::Stage);
-    }
-    Ok(())
+    let print_unit = print_unit_named(prints).ok_or(Refusal::PrintUnit)?;
+    check_fresh(b)?;
+    Ok(print_unit)
 }
 
 // Of opening a line or a spur, of the class and with the instrument that the call's numbers name. Either is none where they name none.
@@ -80,12 +100,13 @@ pub fn check_open(
     instrument: Option<Instrument>,
     number: i64,
     height: i64,
+    prints: i64,
 ) -> Result<Opening, Refusal>
-    ensures number { number_of result ≡ named_refusal (state_of b.now) class instrument number height }
-    ensures opening { MatchOption class ⊤ (λ y. MatchOption instrument ⊤ (λ z. IfOk result (λ o. o ≡ opening_with y z number height))) }
+    ensures number { number_of result ≡ named_refusal (state_of b.now) class instrument number height prints }
+    ensures opening { MatchOption class ⊤ (λ y. MatchOption instrument ⊤ (λ z. IfOk result (λ o. o ≡ opening_with y z number height (print_unit_of prints)))) }
 {
     let class = class.ok_or(Refusal::OrderOrInstrument)?;
     let instrument = instrument.ok_or(Refusal::OrderOrInstrument)?;
-    check_start(b, number, height)?;
-    Ok(opening_with(class, instrument, number, height))
+    let print_unit = check_start(b, number, height, prints)?;
+    Ok(opening_with(class, instrument, number, height, print_unit))
 }

@@ -14,7 +14,7 @@ use Rattle.station.specs.declared.Staffs.TheVariants.{Nominal}
 use Rattle.adjust.specs.declared.terms.Terms.{Terms}
 use Rattle.adjust.specs.Sizes.{most_units, most_prints, most_allowed, most_w}
 use Rattle.adjust.specs.Terms.{terms_of}
-use Rattle.adjust.specs.Line.{units_of, closure_by, totals_by, frame, line_frame, points, verdict, totals, accidental_sum}
+use Rattle.adjust.specs.Line.{units_of, closure_by, totals_by, frame, line_frame, points, verdict}
 use Rattle.adjust.specs.Kept.{totals_from}
 use Rattle.adjust.specs.Frames.{no_point}
 use Rattle.adjust.specs.code.Bounds.{OneTo, Framed}
