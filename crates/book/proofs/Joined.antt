@@ -97,16 +97,16 @@ module _ (b : Book) (w : Places b.sections) where
 
   effect : (c : Call) → book_refusal (state_of b) c ≡ 0 → changed b (effect_of (state_of b) c) ≡ book_with b (taken (state_of b) c)
   unfolding effect_of
-  effect (open_line order instrument number height) e =
-      let c = open_line order instrument number height in alone c e (none c e (book_fails (state_of b) c e 21))
+  effect (open_line order instrument number height prints) e =
+      let c = open_line order instrument number height prints in alone c e (none c e (book_fails (state_of b) c e 21))
   effect (station kb kf readings) e = alone (station kb kf readings) e refl
   effect (end_run number) e =
       ended_made number b.line.waiting (terms_of b.line.opening.class).double
       (room b.line.waiting (book_unbroken b (end_run number) e).waiting (book_fails (state_of b) (end_run number) e 31))
   effect drop_run e = alone drop_run e refl
   effect drop_section e = alone drop_section e refl
-  effect (open_spur order instrument number height) e =
-      let c = open_spur order instrument number height in alone c e (none c e (book_fails (state_of b) c e 21))
+  effect (open_spur order instrument number height prints) e =
+      let c = open_spur order instrument number height prints in alone c e (none c e (book_fails (state_of b) c e 21))
   effect (collimation x) e = alone (collimation x) e refl
   effect (constants first second) e =
       let c = constants first second in alone c e (none_yet c e (book_fails (state_of b) c e 43))
@@ -157,13 +157,13 @@ closes b c {r} o h n f e = record { number = n ∙ h.number; figures = told o.an
 -- ---- each call can be made of every book: there is an answer under each number
 
 answers : (v : LineState) (c : Call) → each_number is_answer (book_tests v c) ≡ true
-answers v (open_line order instrument number height) = search rules
+answers v (open_line order instrument number height prints) = search rules
 answers v (station kb kf readings) = search rules
 answers v (end_run number) = search rules
 answers v drop_run = search rules
 answers v drop_section = search rules
 answers v (close_line number end) = search rules
-answers v (open_spur order instrument number height) = search rules
+answers v (open_spur order instrument number height prints) = search rules
 answers v (close_spur number) = search rules
 answers v (collimation x) = search rules
 answers v (constants first second) = search rules

@@ -46,10 +46,17 @@ pub fn take(b: Book, call: Call) -> Outcome<()>
     Outcome { answer, book }
 }
 
-// Open the line: order 3 or 4, instrument 3 for DS3 or 1 for DS1 and DS05, the start's number and its height in mm.
+// Open the line: order 3 or 4, instrument 3 for DS3 or 1 for DS1 and DS05, the start's number and its height in mm, and the print unit, 1 or 10 to the millimetre.
 // A function of its own, and so of each call below, also where two make much the same: the documents name each call.
-pub fn open(b: Book, order: i64, instrument: i64, number: i64, height: i64) -> Outcome<()>
-    ensures { Answers b (open_line order instrument number height) result }
+pub fn open(
+    b: Book,
+    order: i64,
+    instrument: i64,
+    number: i64,
+    height: i64,
+    prints: i64,
+) -> Outcome<()>
+    ensures { Answers b (open_line order instrument number height prints) result }
 {
     take(
         b,
@@ -58,13 +65,21 @@ pub fn open(b: Book, order: i64, instrument: i64, number: i64, height: i64) -> O
             instrument,
             number,
             height,
+            prints,
         },
     )
 }
 
 // Open a spur, levelled out and back from the start to an end that is not known: order 4, else as a line.
-pub fn open_spur(b: Book, order: i64, instrument: i64, number: i64, height: i64) -> Outcome<()>
-    ensures { Answers b (open_spur order instrument number height) result }
+pub fn open_spur(
+    b: Book,
+    order: i64,
+    instrument: i64,
+    number: i64,
+    height: i64,
+    prints: i64,
+) -> Outcome<()>
+    ensures { Answers b (open_spur order instrument number height prints) result }
 {
     take(
         b,
@@ -73,6 +88,7 @@ pub fn open_spur(b: Book, order: i64, instrument: i64, number: i64, height: i64)
             instrument,
             number,
             height,
+            prints,
         },
     )
 }

@@ -4,6 +4,7 @@
 ghost use Rattle.std.specs.Prelude.{◌≡◌};
 ghost use Rattle.book.specs.Calls.{fresh_book};
 
+use adjust::prints::PrintUnit;
 use adjust::terms::Class;
 use adjust::{Section, SectionSums, Sections};
 use records::Refusal;
@@ -24,7 +25,7 @@ pub struct Outcome<T> {
 pub fn fresh() -> Book
     ensures { result ≡ fresh_book }
 {
-    let opening = opening_with(Class::Fourth, Instrument::Ds3, 0, 0);
+    let opening = opening_with(Class::Fourth, Instrument::Ds3, 0, 0, PrintUnit::Tenths);
     let line = Line {
         stage: Stage::Fresh,
         opening,

@@ -83,12 +83,12 @@ constants_fit b first second e = not-false (constants_in_range first second) (bo
 
 -- ---- opening, by what the call's numbers name
 
-module _ (b : Book) (number height : ℤ) where
+module _ (b : Book) (number height prints : ℤ) where
   -- what is answered of a class and an instrument
   abbrev Opens : Option Class → Option Instrument → Result Change Refusal → Type 0
   Opens y z r =
-      (number_of r ≡ named_refusal (state_of b) y z number height)
-      × MatchOption y ⊤ (λ (class : Class). MatchOption z ⊤ (λ (instrument : Instrument). IfOk r (λ (x : Change). x ≡ opened class instrument number height)))
+      (number_of r ≡ named_refusal (state_of b) y z number height prints)
+      × MatchOption y ⊤ (λ (class : Class). MatchOption z ⊤ (λ (instrument : Instrument). IfOk r (λ (x : Change). x ≡ opened class instrument number height prints)))
 
   -- a refusal gives nothing
   nothing : (P : Change → Type 0) (r : Result Change Refusal) → number_of r ≡ 3 → IfOk r P
@@ -97,15 +97,15 @@ module _ (b : Book) (number height : ℤ) where
 
   -- what is taken is of the class and the instrument that are named
   named : (s t : Bool) (y : Class) (z : Instrument) (r : Result Change Refusal) → Opens (cond s (Some y) None) (cond t (Some z) None) r
-      → IfOk r (λ (x : Change). x ≡ opened y z number height)
+      → IfOk r (λ (x : Change). x ≡ opened y z number height prints)
   named true true y z r h = h.1
-  named true false y z r h = nothing (λ (x : Change). x ≡ opened y z number height) r h.0
-  named false t y z r h = nothing (λ (x : Change). x ≡ opened y z number height) r h.0
+  named true false y z r h = nothing (λ (x : Change). x ≡ opened y z number height prints) r h.0
+  named false t y z r h = nothing (λ (x : Change). x ≡ opened y z number height prints) r h.0
 
   -- a call c that opens, by what its two numbers name: a class where s, an instrument where t
   opens : (c : Call) (s t : Bool) (class : Class) (z : Instrument) {y : Option Class} {k : Option Instrument} (r : Result Change Refusal)
-      → named_refusal (state_of b) y k number height ≡ book_refusal (state_of b) c
-      → effect_of (state_of b) c ≡ opened class z number height
+      → named_refusal (state_of b) y k number height prints ≡ book_refusal (state_of b) c
+      → effect_of (state_of b) c ≡ opened class z number height prints
       → y ≡ cond s (Some class) None → k ≡ cond t (Some z) None → Opens y k r → Decides b c r
   opens c s t class z r n e p q h =
       record {
@@ -113,31 +113,31 @@ module _ (b : Book) (number height : ℤ) where
         change = changes r (named s t class z r (subst (λ (x : Option Class × Option Instrument). Opens x.0 x.1 r) (λ i. (p i, q i)) h));
       }
     where
-      changes : (r : Result Change Refusal) → IfOk r (λ (x : Change). x ≡ opened class z number height) → IfOk r (λ (x : Change). x ≡ effect_of (state_of b) c)
+      changes : (r : Result Change Refusal) → IfOk r (λ (x : Change). x ≡ opened class z number height prints) → IfOk r (λ (x : Change). x ≡ effect_of (state_of b) c)
       changes (Ok x) f = f ∙ sym e
       changes (Err x) f = tt
 
-  pub opens_line : (o k : ℤ) (r : Result Change Refusal) → Opens (class_named o) (instrument_named k) r → Decides b (open_line o k number height) r
+  pub opens_line : (o k : ℤ) (r : Result Change Refusal) → Opens (class_named o) (instrument_named k) r → Decides b (open_line o k number height prints) r
   unfolding effect_of
   opens_line o k r h =
-      opens (open_line o k number height) (eq_z o (pos 3) || eq_z o (pos 4)) (eq_z k (pos 1) || eq_z k (pos 3)) (class_of o) (instrument_of k) r
-      (line_refusal (state_of b) number height o k) refl (line_class o) (instrument k) h
+      opens (open_line o k number height prints) (eq_z o (pos 3) || eq_z o (pos 4)) (eq_z k (pos 1) || eq_z k (pos 3)) (class_of o) (instrument_of k) r
+      (line_refusal (state_of b) number height prints o k) refl (line_class o) (instrument k) h
 
-  pub opens_spur : (o k : ℤ) (r : Result Change Refusal) → Opens (spur_named o) (instrument_named k) r → Decides b (open_spur o k number height) r
+  pub opens_spur : (o k : ℤ) (r : Result Change Refusal) → Opens (spur_named o) (instrument_named k) r → Decides b (open_spur o k number height prints) r
   unfolding effect_of
   opens_spur o k r h =
-      opens (open_spur o k number height) (eq_z o (pos 4)) (eq_z k (pos 1) || eq_z k (pos 3)) Spur (instrument_of k) r
-      (spur_refusal (state_of b) number height o k) refl refl (instrument k) h
+      opens (open_spur o k number height prints) (eq_z o (pos 4)) (eq_z k (pos 1) || eq_z k (pos 3)) Spur (instrument_of k) r
+      (spur_refusal (state_of b) number height prints o k) refl refl (instrument k) h
 
--- either call c of four numbers that fit, as the machine reads them back, by its law above
-pub opens_as : (b : Book) (call : ℤ → ℤ → ℤ → ℤ → Call) (named : ℤ → Option Class)
-    → ((number height o k : ℤ) (r : Result Change Refusal) → Opens b number height (named o) (instrument_named k) r → Decides b (call o k number height) r)
-    → {o k n h : ℤ} {c : Call} {r : Result Change Refusal} {y : Option Class} {z : Option Instrument} → SFits w64 o → SFits w64 k → SFits w64 n → SFits w64 h
-    → c ≡ call o k n h → y ≡ named (stored o) → z ≡ instrument_named (stored k) → Opens b (stored n) (stored h) y z r → Decides b c r
-opens_as b call named law {o = order} {k = kind} {n = number} {h = height} {r = r} o k n h is p q d =
-    subst (λ (x : Call). Decides b x r) ((λ i. call (stored_id o i) (stored_id k i) (stored_id n i) (stored_id h i)) ∙ sym is)
-    (law (stored number) (stored height) (stored order) (stored kind) r
-    (subst (λ (x : Option Class × Option Instrument). Opens b (stored number) (stored height) x.0 x.1 r) (λ i. (p i, q i)) d))
+-- either call c of five numbers that fit, as the machine reads them back, by its law above
+pub opens_as : (b : Book) (call : ℤ → ℤ → ℤ → ℤ → ℤ → Call) (named : ℤ → Option Class)
+    → ((number height prints o k : ℤ) (r : Result Change Refusal) → Opens b number height prints (named o) (instrument_named k) r → Decides b (call o k number height prints) r)
+    → {o k n h p : ℤ} {c : Call} {r : Result Change Refusal} {y : Option Class} {z : Option Instrument} → SFits w64 o → SFits w64 k → SFits w64 n → SFits w64 h → SFits w64 p
+    → c ≡ call o k n h p → y ≡ named (stored o) → z ≡ instrument_named (stored k) → Opens b (stored n) (stored h) (stored p) y z r → Decides b c r
+opens_as b call named law {o = order} {k = kind} {n = number} {h = height} {p = prints} {r = r} o k n h p is e q d =
+    subst (λ (x : Call). Decides b x r) ((λ i. call (stored_id o i) (stored_id k i) (stored_id n i) (stored_id h i) (stored_id p i)) ∙ sym is)
+    (law (stored number) (stored height) (stored prints) (stored order) (stored kind) r
+    (subst (λ (x : Option Class × Option Instrument). Opens b (stored number) (stored height) (stored prints) x.0 x.1 r) (λ i. (e i, q i)) d))
 
 -- ---- a closing, with a known end or without: of a spur 0 stands for it
 

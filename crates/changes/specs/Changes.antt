@@ -5,6 +5,7 @@ use Rattle.records.specs.declared.Refusal.{Refusal}
 use Rattle.records.specs.Refusals.{number_of}
 use Rattle.station.specs.declared.Instrument.{Instrument}
 use Rattle.adjust.specs.declared.terms.Class.{Class}
+use Rattle.adjust.specs.Prints.{print_unit_of}
 use Rattle.adjust.specs.declared.Section.{Section}
 use Rattle.adjust.specs.declared.Sections.{Sections}
 use Rattle.adjust.specs.Sections.{no_section}
@@ -32,9 +33,9 @@ unfoldable pub effect_of : LineState → Call → Change
 effect_of v c = cond (is_lift c) (record { line = (lifted v).line; shift = Lifted }) (change_of v.line c)
 
 -- of a line or a spur that is opened
-abbrev pub opened : Class → Instrument → ℤ → ℤ → Change
-opened class instrument number height =
-    record { line = begun (opening_with class instrument number height); shift = Same }
+abbrev pub opened : Class → Instrument → ℤ → ℤ → ℤ → Change
+opened class instrument number height prints =
+    record { line = begun (opening_with class instrument number height (print_unit_of prints)); shift = Same }
 
 -- r is what a call makes of a book: its refusal, or what it changes
 pub record Decides (b : Book) (c : Call) (r : Result Change Refusal) : Type 0 where

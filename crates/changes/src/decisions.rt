@@ -42,11 +42,12 @@ fn open_change(
     instrument: Option<Instrument>,
     number: i64,
     height: i64,
+    prints: i64,
 ) -> Result<Change, Refusal>
-    ensures number { number_of result ≡ named_refusal (state_of b.now) class instrument number height }
-    ensures change { MatchOption class ⊤ (λ y. MatchOption instrument ⊤ (λ z. IfOk result (λ x. x ≡ opened y z number height))) }
+    ensures number { number_of result ≡ named_refusal (state_of b.now) class instrument number height prints }
+    ensures change { MatchOption class ⊤ (λ y. MatchOption instrument ⊤ (λ z. IfOk result (λ x. x ≡ opened y z number height prints))) }
 {
-    let opening = check_open(b, class, instrument, number, height)?;
+    let opening = check_open(b, class, instrument, number, height, prints)?;
     Ok(of_line(begun(opening)))
 }
 
@@ -119,12 +120,14 @@ pub fn decide(b: &Book, call: &Call) -> Result<Change, Refusal>
             instrument,
             number,
             height,
+            prints,
         } => open_change(
             b,
             class_named(order),
             instrument_named(instrument),
             number,
             height,
+            prints,
         ),
         Call::Station { kb, kf, readings } => station_change(b, kb, kf, readings),
         Call::EndRun { number } => end_change(b, number),
@@ -136,12 +139,14 @@ pub fn decide(b: &Book, call: &Call) -> Result<Change, Refusal>
             instrument,
             number,
             height,
+            prints,
         } => open_change(
             b,
             spur_named(order),
             instrument_named(instrument),
             number,
             height,
+            prints,
         ),
         Call::CloseSpur { number } => close_change(b, number, None),
         Call::Collimation { values } => collimation_change(b, values),

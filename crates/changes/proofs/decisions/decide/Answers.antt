@@ -7,10 +7,10 @@ use Rattle.changes.proofs.decisions.decide.Goals as goal
 
 pub returns-in-OpenLine : goal.returns-in-OpenLine
 returns-in-OpenLine c =
-    opens_as c.args.b.now open_line class_named (opens_line c.args.b.now) (search rules) (search rules) (search rules) (search rules) c.in-OpenLine.is
+    opens_as c.args.b.now open_line class_named (opens_line c.args.b.now) (search rules) (search rules) (search rules) (search rules) (search rules) c.in-OpenLine.is
     c.class_named.ensures c.instrument_named.ensures (c.open_change.ensures.number, c.open_change.ensures.change)
 
 pub returns-in-OpenSpur : goal.returns-in-OpenSpur
 returns-in-OpenSpur c =
-    opens_as c.args.b.now open_spur spur_named (opens_spur c.args.b.now) (search rules) (search rules) (search rules) (search rules) c.in-OpenSpur.is
+    opens_as c.args.b.now open_spur spur_named (opens_spur c.args.b.now) (search rules) (search rules) (search rules) (search rules) (search rules) c.in-OpenSpur.is
     c.spur_named.ensures c.instrument_named-in-OpenSpur.ensures (c.open_change-in-OpenSpur.ensures.number, c.open_change-in-OpenSpur.ensures.change)
