@@ -1,18 +1,17 @@
--- Every list of calls: a line that it leaves closed was closed once and soundly; and its refused calls can be struck out.
+-- Every list of calls: a line that it leaves closed was closed once and soundly, and would be in every print unit; and its refused calls can be struck out.
 use mathlib.Core.Path.{◌≡◌, refl, sym, ap, subst, ◌∙◌}
 use mathlib.Core.Bool.{Bool, true, false, not, cond}
 use mathlib.Core.List.{List, [], ◌∷◌, ◌++◌, map}
-use Prim.Native.Nat.{◌*◌, ◌<◌}
+use Prim.Native.Nat.{ℕ, ◌*◌, ◌<◌}
 use Rattle.std.specs.declared.option.Option.{Option}
 use Rattle.std.specs.Prelude.{Some, None}
 use native.Mathlib.Omega.{arith}
 use lib.Dec.{eqb, eqb→eq}
-use lib.IntN.{ℤ, pos, ◌*ℤ◌, +ℤ_idl}
+use lib.IntN.{ℤ, pos, ◌*ℤ◌, +ℤ_idl, *ℤ-zero}
 use lib.Signed.{◌≤ℤ◌}
 use Rattle.numbers.specs.Numbers.{any_of}
 use Rattle.numbers.proofs.Tests.{by_test, holds, no_true, not-false}
 use Rattle.numbers.proofs.Tables.{met}
-use Rattle.numbers.proofs.Ring.{one_mulℤ}
 use Rattle.station.specs.declared.Staffs.{Staffs}
 use Rattle.station.specs.declared.Staffs.TheVariants.{Nominal, Measured}
 use Rattle.station.specs.Station.{scale_of}
@@ -23,7 +22,8 @@ use Rattle.adjust.specs.declared.Point.{Point}
 use Rattle.adjust.specs.declared.Summary.{Summary}
 use Rattle.adjust.specs.Terms.{terms_of}
 use Rattle.adjust.specs.declared.Frame.{Frame}
-use Rattle.adjust.specs.Line.{units_of, wholes, frame, closure, points, Closing, closing, line_length}
+use Rattle.adjust.specs.Prints.{prints_of}
+use Rattle.adjust.specs.Line.{units_of, frame, closure, points, Closing, closing_by, line_length}
 use Rattle.adjust.proofs.Lines.{line_sound, line_near, raw_heights_lem}
 use Rattle.rules.specs.declared.Stage.{Stage}
 use Rattle.rules.specs.declared.Stage.TheVariants.{Closed}
@@ -32,7 +32,7 @@ use Rattle.rules.specs.declared.call.Call.{Call}
 use Rattle.rules.specs.declared.call.Call.TheVariants.{OpenLine as open_line, EndRun as end_run, DropRun as drop_run, DropSection as drop_section, CloseLine as close_line, OpenSpur as open_spur, CloseSpur as close_spur, Constants as constants, LiftSection as lift_section}
 use Rattle.rules.specs.Rules.{is_closing, input_tests}
 use Rattle.ledger.specs.Plain.{Reading, Awaited, fresh_reading, after, next, taken, refusal, plain_state, run_ended, refusals, figures_of, given, closings}
-use Rattle.ledger.specs.Claims.{others, Ends, SoundClosing, SpurHeights, ClosedBy, by_end, by_fin, ClosedOnce, EveryList, taken_only, StruckOut}
+use Rattle.ledger.specs.Claims.{others, Ends, SoundClosing, EveryUnit, SpurHeights, ClosedBy, by_end, by_fin, ClosedOnce, EveryList, taken_only, StruckOut}
 use Rattle.rules.proofs.Tables.{fails}
 use Rattle.ledger.proofs.Follows.{recast}
 use Rattle.ledger.proofs.Kept.{open_not_closed, fresh_not_closed, closed_long}
@@ -115,8 +115,8 @@ ended_stage r class (Some w) n = refl
 
 -- another call leaves it as far as it was, or open
 stays_open : (r : Reading) (c : Call) → is_closing c ≡ false → NotClosed r → NotClosed (taken r c)
-stays_open r (open_line o i m h) e n = open_not_closed
-stays_open r (open_spur o i m h) e n = open_not_closed
+stays_open r (open_line o i m h p) e n = open_not_closed
+stays_open r (open_spur o i m h p) e n = open_not_closed
 stays_open r (constants first second) e n = open_not_closed
 stays_open r (end_run m) e n = λ k. n (sym (ended_stage r r.opening.class r.waiting m) ∙ k)
 stays_open r (close_line m h) e n = no_true (sym e)
@@ -175,35 +175,39 @@ some_units : (c : Staffs) → 0 < 4 * scale_of c
 some_units Nominal = omega arith
 some_units (Measured first second) = omega arith
 
-module _ (v : LineState) where
+-- in any print unit
+module _ (prints : ℕ) (v : LineState) where
   abbrev o : Opening
   o = v.line.opening
 
   -- the line's frame, and its closing, by whether it is tied to a known height
   abbrev framed : Bool → Frame
-  framed t = frame (units_of o.staffs) wholes o.start.height (record { closure = cond t (closure (units_of o.staffs) o.start.height v.line.end v.sections) (pos 0); distance = line_length v.sections })
+  framed t = frame (units_of o.staffs) (pos prints) o.start.height (record { closure = cond t (closure (units_of o.staffs) o.start.height v.line.end v.sections) (pos 0); distance = line_length v.sections })
 
   abbrev closed_with : Bool → Closing
   closed_with t =
-      let s : Summary = (closing o v.line.end v.sections).summary in
-      record { summary = record s { closure = pos 1 *ℤ (framed t).closure }; points = points (framed t) o.start.number v.sections }
+      let s : Summary = (closing_by prints o v.line.end v.sections).summary in
+      record { summary = record s { closure = pos prints *ℤ (framed t).closure }; points = points (framed t) o.start.number v.sections }
 
   module _ (h : pos 1 ≤ℤ line_length v.sections) where
-    ends : (t : Bool) → Ends t v.line.end (closed_with t)
+    ends : (t : Bool) → Ends t prints v.line.end (closed_with t)
     ends true =
-        let s = line_sound (4 * scale_of o.staffs) (some_units o.staffs) wholes v.sections h o.start.height v.line.end in
-        record { used_up = +ℤ_idl _ ∙ s.used_up; last = s.last ∙ one_mulℤ v.line.end }
-    ends false = refl
+        let s = line_sound (4 * scale_of o.staffs) (some_units o.staffs) (pos prints) v.sections h o.start.height v.line.end in
+        record { used_up = +ℤ_idl _ ∙ s.used_up; last = s.last }
+    ends false = *ℤ-zero (pos prints)
 
-    sound : SoundClosing v (closing o v.line.end v.sections)
-    sound = record { figures = refl; long = h; near = line_near (4 * scale_of o.staffs) (some_units o.staffs) wholes v.sections h o.start.height (framed (terms_of o.class).tied).closure; ends = ends (terms_of o.class).tied }
+    sound : SoundClosing prints v (closing_by prints o v.line.end v.sections)
+    sound = record { figures = refl; long = h; near = line_near (4 * scale_of o.staffs) (some_units o.staffs) (pos prints) v.sections h o.start.height (framed (terms_of o.class).tied).closure; ends = ends (terms_of o.class).tied }
+
+pub every_unit : EveryUnit
+every_unit prints calls some e = sound prints (plain_state (after fresh_reading calls)) (closed_long calls e)
 
 pub spur_heights : SpurHeights
-spur_heights v gave s e =
+spur_heights prints v gave s e =
     let heights : List Point → List ℤ = λ ps. map (λ (p : Point). p.height) (others ps) in
     let long = subst (λ (c : Closing). pos 1 ≤ℤ c.summary.distance) s.figures s.long in
-    ap (λ (c : Closing). heights c.points) s.figures ∙ ap (λ (t : Bool). heights (closed_with v t).points) e
-    ∙ raw_heights_lem (4 * scale_of v.line.opening.staffs) (some_units v.line.opening.staffs) v.line.opening.start.height (line_length v.sections) long v.sections
+    ap (λ (c : Closing). heights c.points) s.figures ∙ ap (λ (t : Bool). heights (closed_with prints v t).points) e
+    ∙ raw_heights_lem (4 * scale_of v.line.opening.staffs) (some_units v.line.opening.staffs) prints v.line.opening.start.height (line_length v.sections) long v.sections
 
 -- by END or by FIN: 41 tells which of them closes a line
 closed_by_lem : (r : Reading) (c : Call) → is_closing c ≡ true → refusal r c ≡ 0 → ClosedBy r c
@@ -225,7 +229,7 @@ closed_once calls gave e =
       accepted = f.accepted;
       gave = figures_of r;
       once = gave ∙ f.once;
-      sound = sound (plain_state r) (subst (λ (s : Reading). pos 1 ≤ℤ line_length (plain_state s).sections) f.stays (closed_long calls e));
+      sound = sound (prints_of r.opening.print_unit) (plain_state r) (subst (λ (s : Reading). pos 1 ≤ℤ line_length (plain_state s).sections) f.stays (closed_long calls e));
       stays = f.stays;
     }
 

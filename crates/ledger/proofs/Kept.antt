@@ -305,8 +305,8 @@ closed_kept v end i known ready =
     assumption placed
 
 taken_kept : (v : LineState) (c : Call) → Kept v → refusal v c ≡ 0 → Kept (taken v c)
-taken_kept v (open_line order instrument number height) i e =
-    let test = fails v (open_line order instrument number height) e in opened_kept (opening_of (class_of order) instrument number height) (test 4) (test 5) refl
+taken_kept v (open_line order instrument number height prints) i e =
+    let test = fails v (open_line order instrument number height prints) e in opened_kept (opening_of (class_of order) instrument number height prints) (test 4) (test 5) refl
 taken_kept v (station kb kf readings) i e =
     runs_kept v v.line.waiting _ i (running_station v kb kf readings e) i.waiting (station_sized v kb kf readings e i.present) (no_stray v i)
 taken_kept v (end_run number) i e = run_kept v number i e
@@ -315,8 +315,8 @@ taken_kept v drop_run i e =
 taken_kept v drop_section i e = runs_kept v None no_run i (not-false (is_open v.line.stage) (fails v drop_section e 21)) tt (no_run_sized v.line.opening.staffs) refl
 taken_kept v (close_line number end) i e =
     let test = fails v (close_line number end) e in closed_kept v end i (not-false (height_in_range end) (test 5)) (test 33)
-taken_kept v (open_spur order instrument number height) i e =
-    let test = fails v (open_spur order instrument number height) e in opened_kept (opening_of Spur instrument number height) (test 4) (test 5) refl
+taken_kept v (open_spur order instrument number height prints) i e =
+    let test = fails v (open_spur order instrument number height prints) e in opened_kept (opening_of Spur instrument number height prints) (test 4) (test 5) refl
 taken_kept v (close_spur number) i e = closed_kept v (pos 0) i refl (fails v (close_spur number) e 33)
 taken_kept v (collimation x) i e =
     let running : is_open v.line.stage ≡ true = not-false (is_open v.line.stage) (fails v (collimation x) e 21) in

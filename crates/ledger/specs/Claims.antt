@@ -1,6 +1,6 @@
--- What is claimed of every list of calls from a fresh book: of the closing taken in it (demand 3 of document 01; for spurs document 02, W-202), of the order of refusals, of refused
--- and dropped calls and lifted sections (document 02, W-210), and of the heights of runs by measured constants (document 02, W-203).
-use Rattle.std.specs.Prelude.{◌≡◌, Bool, true, false, cond, ◌&&◌, List, [], ◌∷◌, ◌++◌, map, ℕ, ◌%◌, length, eqb, ℤ, pos, nat_abs, neg_ℤ, ◌*ℤ◌, ◌≤ℤ◌, None}
+-- What is claimed of every list of calls from a fresh book: of the closing taken in it (demand 3 of document 01; for spurs document 02, W-202), in whatever print unit (W-214), of the order of
+-- refusals, of refused and dropped calls and lifted sections (W-210), and of the heights of runs by measured constants (W-203).
+use Rattle.std.specs.Prelude.{◌≡◌, Bool, true, false, cond, ◌&&◌, List, [], ◌∷◌, ◌++◌, map, ℕ, ◌%◌, length, eqb, ◌≤◌, ℤ, pos, nat_abs, neg_ℤ, ◌*ℤ◌, ◌≤ℤ◌, None}
 use Rattle.numbers.specs.Numbers.{eq_z}
 use Rattle.numbers.specs.Tables.{Lowest}
 use Rattle.station.specs.declared.Staffs.TheVariants.{Nominal, Measured}
@@ -8,7 +8,8 @@ use Rattle.station.specs.declared.Station.{Station}
 use Rattle.station.specs.Station.{constants_paired}
 use Rattle.adjust.specs.declared.Point.{Point}
 use Rattle.adjust.specs.Terms.{terms_of}
-use Rattle.adjust.specs.Line.{units_of, line_frame, Closing, closing}
+use Rattle.adjust.specs.Prints.{prints_of}
+use Rattle.adjust.specs.Line.{units_of, frame_by, Closing, closing_by}
 use Rattle.adjust.specs.Claims.{Near, corrections, last_height, raw_heights}
 use Rattle.rules.specs.declared.Stage.TheVariants.{Open, Closed}
 use Rattle.rules.specs.LineState.{LineState}
@@ -24,33 +25,34 @@ abbrev pub others : List Point → List Point
 others [] = []
 others (p ∷ ps) = ps
 
--- the end of a line that is tied to a known height
-pub record KnownEnd (end : ℤ) (gave : Closing) : Type 0 where
+-- the end of a line that is tied to a known height, printed in so many units to a millimetre
+pub record KnownEnd (prints : ℕ) (end : ℤ) (gave : Closing) : Type 0 where
   -- the corrections of all points use up the closure
   pub used_up : corrections gave.points ≡ neg_ℤ gave.summary.closure
   -- the last height is the known one
-  pub last : last_height (pos 0) gave.points ≡ end
+  pub last : last_height (pos 0) gave.points ≡ pos prints *ℤ end
 
 -- by whether it is tied: of a spur neither of these is promised, and its closure is 0
-abbrev pub Ends : Bool → ℤ → Closing → Type 0
-Ends true end gave = KnownEnd end gave
-Ends false end gave = gave.summary.closure ≡ pos 0
+abbrev pub Ends : Bool → ℕ → ℤ → Closing → Type 0
+Ends true prints end gave = KnownEnd prints end gave
+Ends false prints end gave = gave.summary.closure ≡ pos 0
 
--- `gave` is what closing a line gave that then stood as v
-pub record SoundClosing (v : LineState) (gave : Closing) : Type 0 where
-  -- W, L, n, T, the verdict and each point are what the formulas make of v and its known heights
-  pub figures : gave ≡ closing v.line.opening v.line.end v.sections
+-- `gave` is what closing a line gives that then stands as v, printed in so many units to a millimetre
+pub record SoundClosing (prints : ℕ) (v : LineState) (gave : Closing) : Type 0 where
+  -- W, in the corrections' unit, L, n, T, the verdict and each point are what the formulas make of v and its known heights
+  pub figures : gave ≡ closing_by prints v.line.opening v.line.end v.sections
   -- the bounds of `near` are multiples of L, so they bind
   pub long : pos 1 ≤ℤ gave.summary.distance
-  pub near : Near (line_frame v.line.opening v.line.end v.sections) (pos 0) (pos 0) v.sections (others gave.points)
-  pub ends : Ends (terms_of v.line.opening.class).tied v.line.end gave
+  -- each height is within half a print unit of the exact one, and each correction within one print unit of its share
+  pub near : Near (frame_by prints v.line.opening v.line.end v.sections) (pos 0) (pos 0) v.sections (others gave.points)
+  pub ends : Ends (terms_of v.line.opening.class).tied prints v.line.end gave
 
 -- a spur's heights are start plus running Q, rounded to even
 abbrev pub SpurHeights : Type 0
 SpurHeights =
-    (v : LineState) (gave : Closing) → SoundClosing v gave → (terms_of v.line.opening.class).tied ≡ false
+    (prints : ℕ) (v : LineState) (gave : Closing) → SoundClosing prints v gave → (terms_of v.line.opening.class).tied ≡ false
     → let units : ℤ = units_of v.line.opening.staffs in
-    map (λ (p : Point). p.height) (others gave.points) ≡ raw_heights (nat_abs units) (units *ℤ v.line.opening.start.height) v.sections
+    map (λ (p : Point). p.height) (others gave.points) ≡ raw_heights (nat_abs units) prints (units *ℤ v.line.opening.start.height) v.sections
 
 -- the call that closes a line: END where it is tied to a known height, and FIN where it is not, as on a spur
 pub data ClosedBy (r : Reading) : Call → Type 0 where
@@ -68,12 +70,19 @@ pub record ClosedOnce (calls : List Call) (all : List Closing) : Type 0 where
   pub accepted : refusal (after fresh_reading before) call ≡ 0
   pub gave : Closing
   pub once : all ≡ gave ∷ []
-  pub sound : SoundClosing (plain_state (taken (after fresh_reading before) call)) gave
+  -- in the print unit that the line was opened with
+  pub sound : let v : LineState = plain_state (taken (after fresh_reading before) call) in SoundClosing (prints_of v.line.opening.print_unit) v gave
   pub stays : after fresh_reading calls ≡ taken (after fresh_reading before) call
 
 -- whatever the calls, taken or refused: a line that they leave closed was closed once and soundly
 abbrev pub EveryList : Type 0
 EveryList = (calls : List Call) → (after fresh_reading calls).stage ≡ Closed → ClosedOnce calls (closings fresh_reading calls)
+
+-- of a line that calls leave closed, the closing is sound in every print unit that a millimetre is a whole number of; in the line's own it is the one that was given
+abbrev pub EveryUnit : Type 0
+EveryUnit =
+    (prints : ℕ) (calls : List Call) → 1 ≤ prints → (after fresh_reading calls).stage ≡ Closed
+    → let v : LineState = plain_state (after fresh_reading calls) in SoundClosing prints v (closing_by prints v.line.opening v.line.end v.sections)
 
 -- ---- the number given
 

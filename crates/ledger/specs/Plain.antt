@@ -124,13 +124,13 @@ abbrev pub closed_on : Reading → ℤ → Reading
 closed_on r end = record r { stage = Closed; opening = touched r.opening; end = end }
 
 abbrev pub taken : Reading → Call → Reading
-taken r (open_line order instrument number height) = opened (opening_of (class_of order) instrument number height)
+taken r (open_line order instrument number height prints) = opened (opening_of (class_of order) instrument number height prints)
 taken r (station kb kf readings) = with_lists r r.sections r.waiting (r.present ++ (station_of kb kf readings ∷ []))
 taken r (end_run number) = run_ended r number
 taken r drop_run = with_lists r r.sections r.waiting []
 taken r drop_section = with_lists r r.sections None []
 taken r (close_line number end) = closed_on r end
-taken r (open_spur order instrument number height) = opened (opening_of Spur instrument number height)
+taken r (open_spur order instrument number height prints) = opened (opening_of Spur instrument number height prints)
 -- a spur has no end height: 0 stands for it
 taken r (close_spur number) = closed_on r (pos 0)
 taken r (collimation x) = record r { opening = collimated r.opening }

@@ -42,15 +42,15 @@ FreshEnsures b = fresh_reads.Learnt tt tt b tt
 
 -- of a call but closing, whose outcome is another
 abbrev pub Ensures : Book → Call → Outcome (Unit {0}) → Type 0
-Ensures b (open_line order instrument number height) r =
-    open_reads.Learnt tt (b, (order, (instrument, (number, (height, tt))))) r (b, (order, (instrument, (number, (height, tt)))))
+Ensures b (open_line order instrument number height prints) r =
+    open_reads.Learnt tt (b, (order, (instrument, (number, (height, (prints, tt)))))) r (b, (order, (instrument, (number, (height, (prints, tt))))))
 Ensures b (station kb kf readings) r = station_reads.Learnt tt (b, (kb, (kf, (readings, tt)))) r (b, (kb, (kf, (readings, tt))))
 Ensures b (end_run number) r = end_run_reads.Learnt tt (b, (number, tt)) r (b, (number, tt))
 Ensures b drop_run r = drop_run_reads.Learnt tt (b, tt) r (b, tt)
 Ensures b drop_section r = drop_section_reads.Learnt tt (b, tt) r (b, tt)
 Ensures b (close_line number end) r = ⊥
-Ensures b (open_spur order instrument number height) r =
-    open_spur_reads.Learnt tt (b, (order, (instrument, (number, (height, tt))))) r (b, (order, (instrument, (number, (height, tt)))))
+Ensures b (open_spur order instrument number height prints) r =
+    open_spur_reads.Learnt tt (b, (order, (instrument, (number, (height, (prints, tt)))))) r (b, (order, (instrument, (number, (height, (prints, tt))))))
 Ensures b (close_spur number) r = ⊥
 Ensures b (collimation x) r = collimation_reads.Learnt tt (b, (x, tt)) r (b, (x, tt))
 Ensures b (constants first second) r = constants_reads.Learnt tt (b, (first, (second, tt))) r (b, (first, (second, tt)))
@@ -58,13 +58,13 @@ Ensures b lift_section r = lift_section_reads.Learnt tt (b, tt) r (b, tt)
 
 -- and of a closing
 abbrev pub CloseEnsures : Book → Call → Outcome LineFigures → Type 0
-CloseEnsures b (open_line order instrument number height) r = ⊥
+CloseEnsures b (open_line order instrument number height prints) r = ⊥
 CloseEnsures b (station kb kf readings) r = ⊥
 CloseEnsures b (end_run number) r = ⊥
 CloseEnsures b drop_run r = ⊥
 CloseEnsures b drop_section r = ⊥
 CloseEnsures b (close_line number end) r = close_line_reads.Learnt tt (b, (number, (end, tt))) r (b, (number, (end, tt)))
-CloseEnsures b (open_spur order instrument number height) r = ⊥
+CloseEnsures b (open_spur order instrument number height prints) r = ⊥
 CloseEnsures b (close_spur number) r = close_spur_reads.Learnt tt (b, (number, tt)) r (b, (number, tt))
 CloseEnsures b (collimation x) r = ⊥
 CloseEnsures b (constants first second) r = ⊥

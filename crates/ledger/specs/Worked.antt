@@ -1,5 +1,5 @@
--- The starred lines of document 01, 'Checked by hand', as one fact that the rules compute; a spur, short sections, the collimation test, measured constants and a lift (document 02, W-202,
--- W-201, W-204, W-203 and W-210) as others.
+-- The starred lines of document 01, 'Checked by hand', as one fact that the rules compute; a spur, short sections, the collimation test, measured constants, a lift and tenths (document 02, W-202,
+-- W-201, W-204, W-203, W-210 and W-214) as others. What does not speak of the print unit is printed in whole millimetres.
 use Rattle.std.specs.Prelude.{◌≡◌, refl, List, [], ◌∷◌, ◌++◌, map, ℕ, ◌+◌, ◌-◌, ℤ, pos, neg_ℤ, ◌*ℤ◌}
 use Rattle.roots.specs.Round.{round_even}
 use Rattle.roots.specs.Limit.{is_within}
@@ -11,7 +11,8 @@ use Rattle.adjust.specs.declared.Section.{Section}
 use Rattle.adjust.specs.declared.SectionSums.{SectionSums}
 use Rattle.adjust.specs.declared.Point.{Point}
 use Rattle.adjust.specs.declared.Frame.{Frame}
-use Rattle.adjust.specs.Line.{quarters, wholes, frame_of, exact_top, closure, Closing, accidental}
+use Rattle.adjust.specs.Call.{adjust_refusal, adjusted_heights}
+use Rattle.adjust.specs.Line.{quarters, frame_of, exact_top, closure, Closing, accidental}
 use Rattle.rules.specs.LineState.{LineState, outward_or_return, both_ways}
 use Rattle.rules.specs.declared.call.Call.{Call}
 use Rattle.rules.specs.declared.call.Call.TheVariants.{OpenLine as open_line, Station as station, EndRun as end_run, CloseLine as close_line, OpenSpur as open_spur, CloseSpur as close_spur, Collimation as collimation, DropRun as drop_run, DropSection as drop_section, Constants as constants, LiftSection as lift_section}
@@ -50,7 +51,7 @@ a4 = station (pos 4687) (pos 4787) (staff 1500 1300 1400 6087 ∷ staff 1250 105
 
 -- fourth order, DS3, from benchmark 1
 abbrev open4 : ℕ → Call
-open4 height = open_line (pos 4) (pos 3) (pos 1) (pos height)
+open4 height = open_line (pos 4) (pos 3) (pos 1) (pos height) (pos 1)
 
 -- a level that is adjusted: the values of GB 12898-91, Table B7 (document 02, W-204)
 abbrev tested : Call
@@ -68,13 +69,16 @@ s2 = station_of (pos 4687) (pos 4787) readings2
 abbrev one : ℕ → ℕ → List Call
 one start end = open4 start ∷ tested ∷ a1 ∷ a2 ∷ end_run (pos 2) ∷ close_line (pos 2) (pos end) ∷ []
 
+abbrev two_by : Call → ℕ → List Call
+two_by opening end = opening ∷ tested ∷ a3 ∷ a4 ∷ end_run (pos 2) ∷ a3 ∷ a4 ∷ end_run (pos 3) ∷ close_line (pos 3) (pos end) ∷ []
+
 abbrev two : ℕ → ℕ → List Call
-two start end = open4 start ∷ tested ∷ a3 ∷ a4 ∷ end_run (pos 2) ∷ a3 ∷ a4 ∷ end_run (pos 3) ∷ close_line (pos 3) (pos end) ∷ []
+two start end = two_by (open4 start) end
 
 -- A's section 1 at third order, out and back, before its end and with it
 abbrev gone_back : ℕ → List Call
 gone_back red =
-    open_line (pos 3) (pos 3) (pos 1) (pos 10000) ∷ tested ∷ a1 ∷ a2 ∷ end_run (pos 2)
+    open_line (pos 3) (pos 3) (pos 1) (pos 10000) (pos 1) ∷ tested ∷ a1 ∷ a2 ∷ end_run (pos 2)
     ∷ station (pos 4687) (pos 4787) back_readings1 ∷ station (pos 4787) (pos 4687) (back_readings2 1380 red) ∷ []
 
 abbrev out_and_back : ℕ → List Call
@@ -87,7 +91,7 @@ returned red =
     outward_or_return v.line.waiting [] (λ number run. both_ways number run v.line.present ∷ [])
 
 abbrev two_frame : ℕ → ℕ → Frame
-two_frame start end = frame_of quarters wholes (pos start) (pos end) (plain_state (after fresh_reading (two start end))).sections
+two_frame start end = frame_of quarters (pos 1) (pos start) (pos end) (plain_state (after fresh_reading (two start end))).sections
 
 abbrev section : ℕ → ℕ → ℕ → ℕ → Section
 section n q r d = record { number = pos n; height = pos q; distance = pos r; discrepancy = pos d }
@@ -163,11 +167,21 @@ starred =
 
 -- ---- a spur
 
--- fourth order, DS3, from benchmark 1: A's section 1 out and back
-abbrev spur_out_and_back : ℕ → ℕ → List Call
-spur_out_and_back black red =
-    open_spur (pos 4) (pos 3) (pos 1) (pos 10000) ∷ tested ∷ a1 ∷ a2 ∷ end_run (pos 2)
+-- fourth order, DS3, from benchmark 1
+abbrev spur_in : ℕ → Call
+spur_in prints = open_spur (pos 4) (pos 3) (pos 1) (pos 10000) (pos prints)
+
+abbrev spur : Call
+spur = spur_in 1
+
+-- A's section 1 out and back
+abbrev spur_by : Call → ℕ → ℕ → List Call
+spur_by opening black red =
+    opening ∷ tested ∷ a1 ∷ a2 ∷ end_run (pos 2)
     ∷ station (pos 4687) (pos 4787) back_readings1 ∷ station (pos 4787) (pos 4687) (back_readings2 black red) ∷ end_run (pos 1) ∷ []
+
+abbrev spur_out_and_back : ℕ → ℕ → List Call
+spur_out_and_back black red = spur_by spur black red
 
 -- number and height of each point, and the corrections
 abbrev marks : List Closing → List (List (ℤ × ℤ))
@@ -191,7 +205,7 @@ pub record SpurWorked : Type 0 where
   pub no_loop : refusals (after fresh_reading (spur_out_and_back 1377 6064)) (a1 ∷ a2 ∷ end_run (pos 1) ∷ end_run (pos 3) ∷ []) ≡ 0 ∷ 0 ∷ 30 ∷ 0 ∷ []
   pub loop : refusals (after fresh_reading (out_and_back 6067)) (a1 ∷ a2 ∷ end_run (pos 1) ∷ []) ≡ 0 ∷ 0 ∷ 0 ∷ []
   pub fin_on_line : refusals fresh_reading (close_spur (pos 2) ∷ open4 10000 ∷ tested ∷ a1 ∷ a2 ∷ end_run (pos 2) ∷ close_spur (pos 2) ∷ []) ≡ 21 ∷ 0 ∷ 0 ∷ 0 ∷ 0 ∷ 0 ∷ 41 ∷ []
-  pub order_3 : refusals fresh_reading (open_spur (pos 3) (pos 3) (pos 1) (pos 10000) ∷ []) ≡ 3 ∷ []
+  pub order_3 : refusals fresh_reading (open_spur (pos 3) (pos 3) (pos 1) (pos 10000) (pos 1) ∷ []) ≡ 3 ∷ []
 
 pub spur_worked : SpurWorked
 unfolding round_even is_within within_angle
@@ -228,10 +242,7 @@ short opening s t h g =
     ∷ level 4687 4787 s ∷ station (pos 4787) (pos 4687) (sighted 4787 s 0 0 ∷ sighted 4687 t h g ∷ []) ∷ end_run (pos 1) ∷ [])
 
 abbrev third : Call
-third = open_line (pos 3) (pos 3) (pos 1) (pos 10000)
-
-abbrev spur : Call
-spur = open_spur (pos 4) (pos 3) (pos 1) (pos 10000)
+third = open_line (pos 3) (pos 3) (pos 1) (pos 10000) (pos 1)
 
 -- the end of the return is answered with n, all before it is taken
 abbrev ends : ℕ → List ℕ
@@ -283,8 +294,11 @@ abbrev given : Call
 given = measured 46870 47870
 
 -- A's section 1 alone and at third order out and back, as above, with constants after it is opened
+abbrev measured_by : Call → ℕ → List Call
+measured_by opening end = opening ∷ measured 46850 47870 ∷ tested ∷ a1 ∷ a2 ∷ end_run (pos 2) ∷ close_line (pos 2) (pos end) ∷ []
+
 abbrev one_measured : ℕ → List Call
-one_measured end = open4 10000 ∷ measured 46850 47870 ∷ tested ∷ a1 ∷ a2 ∷ end_run (pos 2) ∷ close_line (pos 2) (pos end) ∷ []
+one_measured end = measured_by (open4 10000) end
 
 abbrev back_measured : ℕ → List Call
 back_measured red =
@@ -410,4 +424,64 @@ lift_worked =
       sums_none = refl;
       t_one = refl;
       t_none = refl;
+    }
+
+-- ---- tenths
+
+-- fourth order, DS3, from benchmark 1, printed in so many units to a millimetre
+abbrev open_in : ℕ → ℕ → Call
+open_in prints height = open_line (pos 4) (pos 3) (pos 1) (pos height) (pos prints)
+
+-- a spur that is closed on benchmark 2, whose Q is odd
+abbrev odd_spur : ℕ → ℕ → List Call
+odd_spur prints black = spur_by (spur_in prints) black 6064 ++ (close_spur (pos 2) ∷ [])
+
+-- of one section of 1 m in Q and 1 km in R, between two known heights, into a list with one place
+abbrev adjusted : ℤ → ℕ → ℕ
+adjusted end prints = adjust_refusal (pos 0) end (pos prints) (section 0 4000 20000 0 ∷ []) 1
+
+-- W, corrections and heights in tenths of their units; limits by the former W
+pub record TenthsWorked : Type 0 where
+  -- A's section 2 twice: the middle, 10549.5, needs no rounding
+  pub two_w : closures (closings fresh_reading (two_by (open_in 10 10000) 11099)) ≡ pos 40 ∷ []
+  pub two_heights : heights (closings fresh_reading (two_by (open_in 10 10000) 11099)) ≡ (pos 100000 ∷ pos 105495 ∷ pos 110990 ∷ []) ∷ []
+  pub two_corrected : corrected (closings fresh_reading (two_by (open_in 10 10000) 11099)) ≡ (pos 0 ∷ neg_ℤ (pos 20) ∷ neg_ℤ (pos 20) ∷ []) ∷ []
+  -- 10654.75 and 10655.25, ties in tenths, are printed as the even tenths
+  pub tie_up : heights (closings fresh_reading (odd_spur 10 1378)) ≡ (pos 100000 ∷ pos 106548 ∷ []) ∷ []
+  pub tie_down : heights (closings fresh_reading (odd_spur 10 1380)) ≡ (pos 100000 ∷ pos 106552 ∷ []) ∷ []
+  pub tie_corrected : corrected (closings fresh_reading (odd_spur 10 1378)) ≡ (pos 0 ∷ pos 2 ∷ []) ∷ []
+  pub tie_whole : heights (closings fresh_reading (odd_spur 1 1378)) ≡ (pos 10000 ∷ pos 10655 ∷ []) ∷ []
+  -- with constants both factors multiply: W 280 in fortieths of a millimetre is 2800
+  pub measured_w : closures (closings fresh_reading (measured_by (open_in 10 10000) 10651)) ≡ pos 2800 ∷ []
+  pub measured_heights : heights (closings fresh_reading (measured_by (open_in 10 10000) 10651)) ≡ (pos 100000 ∷ pos 106510 ∷ []) ∷ []
+  pub measured_corrected : corrected (closings fresh_reading (measured_by (open_in 10 10000) 10651)) ≡ (pos 0 ∷ neg_ℤ (pos 2800) ∷ []) ∷ []
+  pub measured_refused : refusals fresh_reading (measured_by (open_in 10 10000) 10650) ≡ 0 ∷ 0 ∷ 0 ∷ 0 ∷ 0 ∷ 0 ∷ 36 ∷ []
+  -- another print unit, of a line and of a spur: after 5, on an open book too
+  pub other_units : refusals fresh_reading (open_in 0 10000 ∷ open_in 2 10000 ∷ open_in 100 10000 ∷ spur_in 0 ∷ spur_in 11 ∷ open_in 0 9000000 ∷ open_in 10 10000 ∷ open_in 0 10000 ∷ open_in 1 10000 ∷ [])
+      ≡ 57 ∷ 57 ∷ 57 ∷ 57 ∷ 57 ∷ 5 ∷ 0 ∷ 57 ∷ 21 ∷ []
+  -- and in the adjustment call
+  pub adjusted_units : map (adjusted (pos 1000)) (1 ∷ 10 ∷ 0 ∷ 100 ∷ []) ≡ 0 ∷ 0 ∷ 57 ∷ 57 ∷ []
+  pub adjusted_range : adjusted (pos 9000000) 0 ≡ 5
+  pub adjusted_tie : map (λ p. adjusted_heights (pos 10000) (pos 11099) (pos p) (section 0 2200 1600 0 ∷ section 0 2200 1600 0 ∷ [])) (1 ∷ 10 ∷ [])
+      ≡ (pos 10550 ∷ pos 11099 ∷ []) ∷ (pos 105495 ∷ pos 110990 ∷ []) ∷ []
+
+pub tenths_worked : TenthsWorked
+unfolding round_even is_within within_angle adjust_refusal
+tenths_worked =
+    record {
+      two_w = refl;
+      two_heights = refl;
+      two_corrected = refl;
+      tie_up = refl;
+      tie_down = refl;
+      tie_corrected = refl;
+      tie_whole = refl;
+      measured_w = refl;
+      measured_heights = refl;
+      measured_corrected = refl;
+      measured_refused = refl;
+      other_units = refl;
+      adjusted_units = refl;
+      adjusted_range = refl;
+      adjusted_tie = refl;
     }
