@@ -1,16 +1,18 @@
 -- Fields and lines of document 01, computed.
 use mathlib.Core.Path.{◌≡◌, refl}
-use mathlib.Core.List.{[], ◌∷◌, ◌++◌}
+use mathlib.Core.Bool.{false}
+use mathlib.Core.List.{List, [], ◌∷◌, ◌++◌}
+use Prim.Native.Nat.{ℕ}
 use lib.IntN.{pos, negsuc}
 use lib.ListN.{length, take}
 use Rattle.numbers.specs.Numbers.{put_at}
 use Rattle.std.specs.Prelude.{Some, None}
 use Rattle.std.specs.Prelude.{Err}
-use Rattle.records.specs.declared.Tag.TheVariants.{Run}
+use Rattle.records.specs.declared.Tag.TheVariants.{Lin, Spr, Run}
 use Rattle.records.specs.declared.Refusal.TheVariants.{NotARecord, BadField}
 use Rattle.columns.specs.Decimals.{blanks, digits_by, digits, decimal, fits_in, pad, same, value_of, has_minus, candidate, field_of}
 use Rattle.columns.specs.Lines.{line_end, line_with, width_of, fields, all_fit, columns_of, line_fits, tag_line, is_wide, heading}
-use Rattle.columns.specs.Records.{letters, tag_among, all_numbers, numbers_in, record_line, numbers_line, record_in, line_in}
+use Rattle.columns.specs.Records.{letters, tag_among, all_numbers, numbers_in, lacks_print_unit, with_print_unit, record_line, numbers_line, record_in, line_in}
 
 -- "      -4" is a number; "      +4", "     007", "      -0", "    -  4", "      4 " and blanks are none
 field_examples :
@@ -46,5 +48,21 @@ line_examples :
     × (line_in (line_with (letters Run ++ pad 8 (pos 2) ++ (46 ∷ []))) ≡ Err NotARecord)
     × (line_in (line_with (letters Run ++ blanks 8 ++ (46 ∷ []))) ≡ Err NotARecord)
     × (line_in heading ≡ Err NotARecord)
-unfolding line_in record_in numbers_line tag_among all_numbers numbers_in put_at heading line_with line_end field_of candidate has_minus value_of same pad decimal digits digits_by blanks
+unfolding line_in record_in numbers_line lacks_print_unit with_print_unit tag_among all_numbers numbers_in put_at heading line_with line_end field_of candidate has_minus value_of same pad decimal digits digits_by blanks
 line_examples = (refl, refl, refl, refl, refl)
+
+-- "LIN       4       3       1   10000" and a fifth field
+abbrev opening_line : List ℕ → List ℕ
+opening_line unit = line_with (letters Lin ++ fields false (pos 4 ∷ pos 3 ∷ pos 1 ∷ pos 10000 ∷ []) ++ unit)
+
+-- a blank print unit is 10, of LIN and of SPR; another number is read as it is, for the rules to refuse; what is no number is 2, and a blank field before it too
+print_unit_examples :
+    (line_in (opening_line (blanks 8)) ≡ record_line Lin (pos 4 ∷ pos 3 ∷ pos 1 ∷ pos 10000 ∷ pos 10 ∷ []))
+    × (line_in (opening_line (pad 8 (pos 1))) ≡ record_line Lin (pos 4 ∷ pos 3 ∷ pos 1 ∷ pos 10000 ∷ pos 1 ∷ []))
+    × (line_in (opening_line (pad 8 (pos 0))) ≡ record_line Lin (pos 4 ∷ pos 3 ∷ pos 1 ∷ pos 10000 ∷ pos 0 ∷ []))
+    × (line_in (opening_line (blanks 7 ++ (46 ∷ []))) ≡ Err BadField)
+    × (line_in (opening_line (blanks 8 ++ (49 ∷ []))) ≡ Err NotARecord)
+    × (line_in (line_with (letters Spr ++ fields false (pos 4 ∷ pos 3 ∷ pos 1 ∷ pos 10000 ∷ []))) ≡ record_line Spr (pos 4 ∷ pos 3 ∷ pos 1 ∷ pos 10000 ∷ pos 10 ∷ []))
+    × (line_in (line_with (letters Lin ++ fields false (pos 4 ∷ pos 3 ∷ pos 1 ∷ []))) ≡ Err BadField)
+unfolding line_in record_in numbers_line lacks_print_unit with_print_unit tag_among all_numbers numbers_in put_at fields width_of line_with line_end field_of candidate has_minus value_of same pad decimal digits digits_by blanks
+print_unit_examples = (refl, refl, refl, refl, refl, refl, refl)

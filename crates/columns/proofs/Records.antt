@@ -1,6 +1,6 @@
 -- Records read: a turn of the loop over a line's fields, and which lines are refused.
 use mathlib.Core.Path.{◌≡◌, refl, sym, ap, subst, ◌∙◌}
-use mathlib.Core.Bool.{Bool, true, false, not, cond}
+use mathlib.Core.Bool.{Bool, true, false, not, cond, ◌&&◌}
 use mathlib.Core.List.{List, [], ◌∷◌}
 use Prim.Native.Nat.{ℕ, zero, suc, ◌+◌, ◌-◌, ◌*◌, ◌≤◌, ◌<◌}
 use native.Mathlib.Omega.{arith}
@@ -12,6 +12,7 @@ use lib.Seq.{drop-drop}
 use Rattle.numbers.specs.Tables.{first_of, Lowest}
 use Rattle.numbers.specs.Numbers.{put_at}
 use Rattle.numbers.proofs.Arrays.{put_cons}
+use Rattle.numbers.proofs.Tests.{by_test, is_true, not_both, and_l, and_r}
 use Rattle.numbers.proofs.Tables.{first_lowest}
 use Rattle.std.specs.declared.option.Option.{Option}
 use Rattle.std.specs.Prelude.{Some, None}
@@ -23,11 +24,11 @@ use Rattle.records.specs.declared.Record.{Record}
 use Rattle.records.specs.declared.Refusal.{Refusal}
 use Rattle.records.specs.declared.Refusal.TheVariants.{NotARecord, BadField}
 use Rattle.records.specs.Refusals.{number_of}
-use Rattle.columns.specs.Decimals.{same, field_of}
+use Rattle.columns.specs.Decimals.{blanks, digits_by, digits, decimal, pad, same, value_of, has_minus, candidate, field_of}
 use Rattle.columns.specs.Lines.{line_end}
-use Rattle.columns.specs.Records.{field_count, tags, tag_among, all_numbers, numbers_in, record_line, numbers_line, record_in, line_of_tag, line_in, has_shape, has_numbers, shape_tests, Parses}
+use Rattle.columns.specs.Records.{field_count, tags, tag_among, all_numbers, numbers_in, lacks_print_unit, with_print_unit, has_print_unit, record_line, numbers_line, record_in, line_of_tag, line_in, has_shape, has_numbers, shape_tests, Parses}
 use Rattle.columns.proofs.Lists.{left_next, left_none, part_rest}
-use Rattle.columns.proofs.Compare.{same_lengths}
+use Rattle.columns.proofs.Compare.{both, same_lengths, same_true}
 use Rattle.columns.proofs.Lines.{length_end}
 use Rattle.columns.proofs.Tags.{tag_facts}
 
@@ -119,11 +120,49 @@ module _ (tag : Tag) (n : ℕ) (t : List ℕ) where
 module _ (t : Tag) (l : List ℕ) where
   pub record_bad : same (drop (3 + 8 * field_count t) l) (line_end (3 + 8 * field_count t)) ≡ false → record_in t l ≡ Err NotARecord
   unfolding record_in
-  record_bad e = ap (λ (b : Bool). cond b (numbers_line t (field_count t) (drop 3 l)) (Err NotARecord)) e
+  record_bad e = ap (λ (b : Bool). cond b (numbers_line t (field_count t) (drop 3 (with_print_unit t l))) (Err NotARecord)) e
 
-  pub record_shaped : same (drop (3 + 8 * field_count t) l) (line_end (3 + 8 * field_count t)) ≡ true → record_in t l ≡ numbers_line t (field_count t) (drop 3 l)
+  pub record_shaped : same (drop (3 + 8 * field_count t) l) (line_end (3 + 8 * field_count t)) ≡ true → record_in t l ≡ numbers_line t (field_count t) (drop 3 (with_print_unit t l))
   unfolding record_in
-  record_shaped e = ap (λ (b : Bool). cond b (numbers_line t (field_count t) (drop 3 l)) (Err NotARecord)) e
+  record_shaped e = ap (λ (b : Bool). cond b (numbers_line t (field_count t) (drop 3 (with_print_unit t l))) (Err NotARecord)) e
+
+-- ---- the print unit
+
+-- field i of fields that are all numbers
+each_number : (n i : ℕ) (t : List ℕ) → i < n → all_numbers n t ≡ true → is_some (field_of (take 8 (drop (8 * i) t))) ≡ true
+unfolding all_numbers
+each_number zero i t k h = absurd (omega arith)
+each_number (suc n) zero t k h = (both (is_some (field_of (take 8 t))) (all_numbers n (drop 8 t)) h).0
+each_number (suc n) (suc i) t k h =
+    ap (λ (x : List ℕ). is_some (field_of (take 8 x))) (ap (λ (j : ℕ). drop j t) (eight i) ∙ sym (drop-drop (8 * i) 8 t))
+    ∙ each_number n i (drop 8 t) (omega arith) (both (is_some (field_of (take 8 t))) (all_numbers n (drop 8 t)) h).1
+  where
+    eight : (i : ℕ) → 8 * suc i ≡ 8 + 8 * i
+    eight i = omega arith
+
+no_number : field_of (blanks 8) ≡ None
+unfolding field_of candidate has_minus value_of same pad decimal digits digits_by blanks
+no_number = refl
+
+module _ (t : Tag) (l : List ℕ) where
+  pub print_unit_kept : lacks_print_unit t l ≡ false → with_print_unit t l ≡ l
+  unfolding with_print_unit
+  print_unit_kept e = ap (λ (b : Bool). cond b (put_at l 35 (pad 8 (pos 10))) l) e
+
+  -- one that is a number is not blank
+  pub print_unit_read : all_numbers (field_count t) (drop 3 l) ≡ true → lacks_print_unit t l ≡ false
+  unfolding lacks_print_unit
+  print_unit_read h =
+      by_test (has_print_unit t && same (take 8 (drop 35 l)) (blanks 8)) (λ b. b ≡ false)
+      (λ e.
+      let p = has_print_unit t in
+      let q = same (take 8 (drop 35 l)) (blanks 8) in
+      let five = (tag_facts t).five (and_l p q (is_true e)) in
+      let blank : take 8 (drop 35 l) ≡ blanks 8 = same_true (take 8 (drop 35 l)) (blanks 8) (and_r p q (is_true e)) in
+      let fifth : is_some (field_of (take 8 (drop 35 l))) ≡ true =
+      ap (λ (x : List ℕ). is_some (field_of (take 8 x))) (sym (drop-drop 32 3 l)) ∙ each_number 5 4 (drop 3 l) (omega arith) (ap (λ (n : ℕ). all_numbers n (drop 3 l)) (sym five) ∙ h) in
+      absurd (not_both fifth (ap (λ (x : List ℕ). is_some (field_of x)) blank ∙ ap is_some no_number)))
+      (λ e. refl)
 
 -- a line of another length is refused
 pub line_length_lem : (l : List ℕ) → (length l ≡ 84 → ⊥) → line_in l ≡ Err NotARecord
@@ -176,7 +215,7 @@ parses l e =
     go : (k : Option Tag)
         → (number_of (line_of_tag k l) ≡ first_of ((1, not (has_shape k l)) ∷ (2, not (has_numbers k l)) ∷ []))
         × IfOk (line_of_tag k l) (λ r. k ≡ Some r.tag)
-    go (Some t) = answered t (numbers_in (field_count t) (drop 3 l)) (has_shape (Some t) l) (has_numbers (Some t) l)
+    go (Some t) = answered t (numbers_in (field_count t) (drop 3 (with_print_unit t l))) (has_shape (Some t) l) (has_numbers (Some t) l)
     go None = (refl, tt)
 
 -- and it is the lowest of the two that applies

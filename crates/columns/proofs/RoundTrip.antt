@@ -1,4 +1,4 @@
--- Whole lines: reading undoes writing, and a line that is read as a record is byte for byte what writing that record gives.
+-- Whole lines: reading undoes writing, and a line that is read as a record, whose print unit is not blank where it has one, is byte for byte what writing that record gives.
 use mathlib.Core.Path.{◌≡◌, refl, sym, ap, subst, ◌∙◌}
 use mathlib.Core.Bool.{Bool, true, false, cond}
 use mathlib.Core.List.{List, [], ◌∷◌, ◌++◌, append_assoc}
@@ -20,11 +20,11 @@ use Rattle.records.specs.declared.Refusal.{Refusal}
 use Rattle.records.specs.declared.Refusal.TheVariants.{NotARecord, BadField}
 use Rattle.columns.specs.Decimals.{fits_in, pad, same, field_of}
 use Rattle.columns.specs.Lines.{line_end, line_with, width_of, fields, all_fit, line_fits, tag_line}
-use Rattle.columns.specs.Records.{letters, field_count, tags, tag_among, all_numbers, numbers_in, zeros, record_line, numbers_line, record_in, line_of_tag, line_in}
+use Rattle.columns.specs.Records.{letters, field_count, tags, tag_among, all_numbers, numbers_in, lacks_print_unit, zeros, record_line, numbers_line, record_in, line_of_tag, line_in}
 use Rattle.columns.proofs.Compare.{both, same_true, same_equal}
 use Rattle.columns.proofs.Fields.{length_pad, read_back, written_field, number_fits}
 use Rattle.columns.proofs.Lines.{columns_narrow, length_end, fits_line, fits_room, line_is}
-use Rattle.columns.proofs.Records.{record_shaped, line_taken}
+use Rattle.columns.proofs.Records.{record_shaped, line_taken, print_unit_kept, print_unit_read, parses}
 use Rattle.columns.proofs.Tags.{tag_facts}
 
 -- l is the record with tag t and numbers zs, written
@@ -79,8 +79,10 @@ line_back t zs l w =
     let rest : drop 3 l ≡ r = ap (drop 3) a ∙ drop_at (letters t) r 3 (tag_facts t).three in
     let end : drop m l ≡ line_end m = ap (drop m) i ∙ drop_at s (line_end (length s)) m q ∙ ap line_end q in
     let f = fields_back zs (line_end (length s)) w.each in
+    let numbers : all_numbers (field_count t) (drop 3 l) ≡ true = (λ j. all_numbers (sym w.count j) (rest j)) ∙ f.0 in
     ap (λ (k : Option Tag). line_of_tag k l) (ap (tag_among tags) front ∙ (tag_facts t).back)
     ∙ record_shaped t l (same_equal (drop m l) (line_end m) end)
+    ∙ ap (λ (x : List ℕ). numbers_line t (field_count t) (drop 3 x)) (print_unit_kept t l (print_unit_read t l numbers))
     ∙ (λ j. numbers_line t (sym w.count j) (rest j))
     ∙ line_taken t (length zs) r f.0
     ∙ ap (record_line t) f.1
@@ -161,12 +163,13 @@ module _ (l : List ℕ) (r : Record) where
   abbrev WrittenBy : Result Record Refusal → Type 0
   WrittenBy x = x ≡ Ok r → Written r.tag (take (field_count r.tag) r.values) l
 
-  taken : (u : Tag) → take 3 l ≡ letters u → WrittenBy (record_in u l)
+  taken : (u : Tag) → take 3 l ≡ letters u → lacks_print_unit u l ≡ false → WrittenBy (record_in u l)
   unfolding record_in numbers_line
-  taken u front =
+  taken u front there =
       let n : ℕ = field_count u in
       let m : ℕ = 3 + 8 * n in
-      by_test (same (drop m l) (line_end m)) (λ b. WrittenBy (cond b (numbers_line u n (drop 3 l)) (Err NotARecord)))
+      subst (λ (x : List ℕ). WrittenBy (cond (same (drop m l) (line_end m)) (numbers_line u n (drop 3 x)) (Err NotARecord))) (sym (print_unit_kept u l there))
+      (by_test (same (drop m l) (line_end m)) (λ b. WrittenBy (cond b (numbers_line u n (drop 3 l)) (Err NotARecord)))
       (λ end.
       by_test (all_numbers n (drop 3 l)) (λ b. WrittenBy (cond b (record_line u (numbers_in n (drop 3 l))) (Err BadField)))
       (λ h e.
@@ -176,12 +179,10 @@ module _ (l : List ℕ) (r : Record) where
       subst (λ (x : Record). Written x.tag (take (field_count x.tag) x.values) l) is
       (subst (λ (x : List ℤ). Written u x l) (values_front n zs w.count) w))
       (λ h e. cc))
-      (λ end e. cc)
+      (λ end e. cc))
 
-  pub line_written : line_in l ≡ Ok r → Written r.tag (take (field_count r.tag) r.values) l
+  pub line_written : line_in l ≡ Ok r → lacks_print_unit r.tag l ≡ false → Written r.tag (take (field_count r.tag) r.values) l
   unfolding line_in
-  line_written = go (tag_among tags (take 3 l)) refl
-    where
-      go : (k : Option Tag) → tag_among tags (take 3 l) ≡ k → WrittenBy (line_of_tag k l)
-      go (Some u) q = taken u (tag_letters tags (take 3 l) u q)
-      go None q = λ e. cc
+  line_written e there =
+      let tag : tag_among tags (take 3 l) ≡ Some r.tag = (parses l (sym e)).1.1 in
+      taken r.tag (tag_letters tags (take 3 l) r.tag tag) there (sym (ap (λ (k : Option Tag). line_of_tag k l) tag) ∙ e)

@@ -1,37 +1,42 @@
 -- Tags: what holds of each, and which tag some letters are.
 use mathlib.Core.Path.{◌≡◌, refl, ap, ◌∙◌}
-use mathlib.Core.Bool.{Bool, true, ◌&&◌, cond}
+use mathlib.Core.Bool.{Bool, true, false, ◌&&◌, cond}
 use mathlib.Core.List.{List, [], ◌∷◌}
 use Prim.Native.Nat.{ℕ, ◌≤◌, ◌<◌}
 use native.Mathlib.Omega.{arith}
 use lib.Dec.{lit≤, eqb}
 use lib.ListN.{length, get_or}
+use Rattle.numbers.proofs.Tests.{no_true}
 use Rattle.std.specs.Prelude.{Some, None}
 use Rattle.std.specs.declared.option.Option.{Option}
 use Rattle.records.specs.declared.Tag.{Tag}
 use Rattle.columns.specs.Decimals.{same}
-use Rattle.columns.specs.Records.{letters, field_count, tags, tag_among}
+use Rattle.columns.specs.Records.{letters, field_count, has_print_unit, tags, tag_among}
 use Rattle.columns.proofs.Compare.{same_lengths}
 
--- of a tag: its numbers are at most ten, its letters are three, and they are read as this tag
+-- of a tag: its numbers are at most ten, five where there is a print unit, its letters are three, and they are read as this tag
 pub record TagFacts (t : Tag) : Type 0 where
   pub ten : field_count t ≤ 10
+  pub five : has_print_unit t ≡ true → field_count t ≡ 5
   pub three : length (letters t) ≡ 3
   pub back : tag_among tags (letters t) ≡ Some t
 
+no_print_unit : {n : ℕ} → false ≡ true → n ≡ 5
+no_print_unit e = no_true e
+
 pub tag_facts : (t : Tag) → TagFacts t
 unfolding tag_among same
-tag_facts Tag.Lin = record { ten = lit≤ tt; three = refl; back = refl }
-tag_facts Tag.Sta = record { ten = lit≤ tt; three = refl; back = refl }
-tag_facts Tag.Run = record { ten = lit≤ tt; three = refl; back = refl }
-tag_facts Tag.Drr = record { ten = lit≤ tt; three = refl; back = refl }
-tag_facts Tag.Drs = record { ten = lit≤ tt; three = refl; back = refl }
-tag_facts Tag.End = record { ten = lit≤ tt; three = refl; back = refl }
-tag_facts Tag.Spr = record { ten = lit≤ tt; three = refl; back = refl }
-tag_facts Tag.Fin = record { ten = lit≤ tt; three = refl; back = refl }
-tag_facts Tag.Ang = record { ten = lit≤ tt; three = refl; back = refl }
-tag_facts Tag.Kon = record { ten = lit≤ tt; three = refl; back = refl }
-tag_facts Tag.Lft = record { ten = lit≤ tt; three = refl; back = refl }
+tag_facts Tag.Lin = record { ten = lit≤ tt; five = λ e. refl; three = refl; back = refl }
+tag_facts Tag.Sta = record { ten = lit≤ tt; five = no_print_unit; three = refl; back = refl }
+tag_facts Tag.Run = record { ten = lit≤ tt; five = no_print_unit; three = refl; back = refl }
+tag_facts Tag.Drr = record { ten = lit≤ tt; five = no_print_unit; three = refl; back = refl }
+tag_facts Tag.Drs = record { ten = lit≤ tt; five = no_print_unit; three = refl; back = refl }
+tag_facts Tag.End = record { ten = lit≤ tt; five = no_print_unit; three = refl; back = refl }
+tag_facts Tag.Spr = record { ten = lit≤ tt; five = λ e. refl; three = refl; back = refl }
+tag_facts Tag.Fin = record { ten = lit≤ tt; five = no_print_unit; three = refl; back = refl }
+tag_facts Tag.Ang = record { ten = lit≤ tt; five = no_print_unit; three = refl; back = refl }
+tag_facts Tag.Kon = record { ten = lit≤ tt; five = no_print_unit; three = refl; back = refl }
+tag_facts Tag.Lft = record { ten = lit≤ tt; five = no_print_unit; three = refl; back = refl }
 
 -- ---- three letters, byte by byte
 

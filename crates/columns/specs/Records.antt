@@ -1,5 +1,5 @@
 -- What a line of the text book is: a record, or refused, by refusals 1 (`NotARecord`) and 2 (`BadField`) of document 01.
-use Rattle.std.specs.Prelude.{◌≡◌, Bool, true, false, not, cond, Some, None, is_some, Ok, Err, IfOk, List, [], ◌∷◌, ℕ, zero, suc, ◌+◌, ◌*◌, ℤ, pos, take, drop, replicate}
+use Rattle.std.specs.Prelude.{◌≡◌, Bool, true, false, not, cond, ◌&&◌, Some, None, is_some, Ok, Err, IfOk, List, [], ◌∷◌, ℕ, zero, suc, ◌+◌, ◌*◌, ℤ, pos, take, drop, replicate}
 use Rattle.std.specs.Option.{unwrap_or}
 use Rattle.std.specs.declared.option.Option.{Option}
 use Rattle.std.specs.declared.result.Result.{Result}
@@ -11,7 +11,7 @@ use Rattle.records.specs.declared.Record.{Record}
 use Rattle.records.specs.declared.Refusal.{Refusal}
 use Rattle.records.specs.declared.Refusal.TheVariants.{NotARecord, BadField}
 use Rattle.records.specs.Refusals.{number_of}
-use Rattle.columns.specs.Decimals.{same, field_of}
+use Rattle.columns.specs.Decimals.{blanks, pad, same, field_of}
 use Rattle.columns.specs.Lines.{line_end}
 
 -- ---- tags
@@ -32,13 +32,13 @@ letters Lft = 76 ∷ 70 ∷ 84 ∷ []
 
 -- how many numbers follow a tag
 abbrev pub field_count : Tag → ℕ
-field_count Lin = 4
+field_count Lin = 5
 field_count Sta = 10
 field_count Run = 1
 field_count Drr = 0
 field_count Drs = 0
 field_count End = 2
-field_count Spr = 4
+field_count Spr = 5
 field_count Fin = 1
 field_count Ang = 6
 field_count Kon = 2
@@ -64,6 +64,28 @@ unfoldable pub numbers_in : ℕ → List ℕ → List ℤ
 numbers_in zero t = []
 numbers_in (suc n) t = unwrap_or (field_of (take 8 t)) (pos 0) ∷ numbers_in n (drop 8 t)
 
+-- ---- the print unit
+
+-- the fifth field of LIN and SPR is the print unit, and may be blank (document 02, W-214)
+abbrev pub has_print_unit : Tag → Bool
+has_print_unit Lin = true
+has_print_unit Sta = false
+has_print_unit Run = false
+has_print_unit Drr = false
+has_print_unit Drs = false
+has_print_unit End = false
+has_print_unit Spr = true
+has_print_unit Fin = false
+has_print_unit Ang = false
+has_print_unit Kon = false
+
+unfoldable pub lacks_print_unit : Tag → List ℕ → Bool
+lacks_print_unit t l = has_print_unit t && same (take 8 (drop 35 l)) (blanks 8)
+
+-- a blank one is 10: such a line is read as the one with 10 in that field
+unfoldable pub with_print_unit : Tag → List ℕ → List ℕ
+with_print_unit t l = cond (lacks_print_unit t l) (put_at l 35 (pad 8 (pos 10))) l
+
 -- ---- lines
 
 abbrev pub zeros : List ℤ
@@ -82,7 +104,7 @@ unfoldable pub record_in : Tag → List ℕ → Result Record Refusal
 record_in t l =
     let n : ℕ = field_count t in
     let from : ℕ = 3 + 8 * n in
-    cond (same (drop from l) (line_end from)) (numbers_line t n (drop 3 l)) (Err NotARecord)
+    cond (same (drop from l) (line_end from)) (numbers_line t n (drop 3 (with_print_unit t l))) (Err NotARecord)
 
 -- a line with this tag; one without a tag is refused
 abbrev pub line_of_tag : Option Tag → List ℕ → Result Record Refusal
@@ -102,7 +124,7 @@ has_shape None l = false
 
 -- whether each field of its tag is a number
 abbrev pub has_numbers : Option Tag → List ℕ → Bool
-has_numbers (Some t) l = all_numbers (field_count t) (drop 3 l)
+has_numbers (Some t) l = all_numbers (field_count t) (drop 3 (with_print_unit t l))
 has_numbers None l = true
 
 -- document 01's tests of a line, in their order

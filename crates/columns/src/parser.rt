@@ -1,9 +1,10 @@
 // Lines of the text book, read.
-ghost use Rattle.std.specs.Prelude.{◌≡◌, ◌+◌, ◌*◌, ◌≤◌, length, drop, Ok};
-ghost use Rattle.columns.specs.Decimals.{same, field_of};
+ghost use Rattle.std.specs.Prelude.{◌≡◌, ◌+◌, ◌*◌, ◌≤◌, length, drop, pos, Ok};
+ghost use Rattle.numbers.specs.Numbers.{put_at};
+ghost use Rattle.columns.specs.Decimals.{pad, same, field_of};
 ghost use Rattle.columns.specs.code.Parser.{digit_run, natural_of, negated};
 ghost use Rattle.columns.specs.Lines.{line_end, heading};
-ghost use Rattle.columns.specs.Records.{tags, tag_among, field_count, numbers_line, record_in, Parses};
+ghost use Rattle.columns.specs.Records.{tags, tag_among, field_count, has_print_unit, lacks_print_unit, numbers_line, record_in, Parses};
 
 use super::BLANK_LINE;
 use records::{Record, Refusal, Tag};
@@ -85,13 +86,13 @@ fn field_count(tag: Tag) -> usize
     ensures { result ≡ field_count tag }
 {
     match tag {
-        Tag::Lin => 4,
+        Tag::Lin => 5,
         Tag::Sta => 10,
         Tag::Run => 1,
         Tag::Drr => 0,
         Tag::Drs => 0,
         Tag::End => 2,
-        Tag::Spr => 4,
+        Tag::Spr => 5,
         Tag::Fin => 1,
         Tag::Ang => 6,
         Tag::Kon => 2,
@@ -130,8 +131,36 @@ fn ends_from(line: &[u8], from: usize) -> bool
     line[from..] == blank[from..]
 }
 
+// Whether the fifth field is the print unit, which may be blank.
+fn has_print_unit(tag: Tag) -> bool
+    ensures { result ≡ has_print_unit tag }
+{
+    matches!(tag, Tag::Lin | Tag::Spr)
+}
+
+// Whether it is blank.
+#[tactic(auto, unfolding(crate::specs::Records::lacks_print_unit, crate::specs::Decimals::same, crate::specs::Decimals::blanks))]
+fn lacks_print_unit(line: &[u8], tag: Tag) -> bool
+    requires { length line.now ≡ 84 }
+    ensures { result ≡ lacks_print_unit tag line.now }
+{
+    let blank = BLANK_LINE.as_slice();
+    has_print_unit(tag) && line[35..43] == blank[35..43]
+}
+
+// The line with the usual one in its place.
+fn with_usual(line: &[u8]) -> [u8; 84]
+    requires { length line.now ≡ 84 }
+    ensures { result ≡ put_at line.now 35 (pad 8 (pos 10)) }
+{
+    let mut filled = *BLANK_LINE;
+    filled.copy_from_slice(line);
+    filled[35..43].copy_from_slice(b"      10");
+    filled
+}
+
 // A line of 84 bytes with a known tag.
-#[tactic(auto, unfolding(crate::specs::Records::record_in))]
+#[tactic(auto, unfolding(crate::specs::Records::record_in, crate::specs::Records::with_print_unit))]
 fn read_record(line: &[u8], tag: Tag) -> Result<Record, Refusal>
     requires { length line.now ≡ 84 }
     ensures { result ≡ record_in tag line.now }
@@ -139,6 +168,9 @@ fn read_record(line: &[u8], tag: Tag) -> Result<Record, Refusal>
     let n = field_count(tag);
     if !ends_from(line, 3 + 8 * n) {
         return Err(Refusal::NotARecord);
+    }
+    if lacks_print_unit(line, tag) {
+        return read_numbers(&with_usual(line), tag, n);
     }
     read_numbers(line, tag, n)
 }
