@@ -61,25 +61,25 @@ numbers_of xs = entry_refusals fresh_reading (entries_of xs)
 -- ---- worked
 
 abbrev nothing_more : List ℤ
-nothing_more = pos 0 ∷ pos 0 ∷ pos 0 ∷ pos 0 ∷ pos 0 ∷ pos 0 ∷ []
+nothing_more = pos 0 ∷ pos 0 ∷ pos 0 ∷ pos 0 ∷ pos 0 ∷ []
 
 abbrev pub example : List ℤ
 example =
-    pos 1 ∷ pos 4 ∷ pos 3 ∷ pos 1 ∷ pos 10000 ∷ nothing_more
+    pos 1 ∷ pos 4 ∷ pos 3 ∷ pos 1 ∷ pos 10000 ∷ pos 1 ∷ nothing_more
     ++ (pos 2 ∷ pos 4687 ∷ pos 1571 ∷ pos 1197 ∷ pos 1384 ∷ pos 6171 ∷ pos 4787 ∷ pos 739 ∷ pos 363 ∷ pos 551 ∷ pos 5239 ∷ [])
-    ++ (pos 6 ∷ pos 2 ∷ negsuc 0 ∷ pos 0 ∷ pos 0 ∷ nothing_more)
-    ++ (pos 7 ∷ pos 4 ∷ pos 3 ∷ pos 1 ∷ pos 10000 ∷ nothing_more)
-    ++ (pos 8 ∷ pos 2 ∷ pos 0 ∷ pos 0 ∷ pos 0 ∷ nothing_more)
+    ++ (pos 6 ∷ pos 2 ∷ negsuc 0 ∷ pos 0 ∷ pos 0 ∷ pos 0 ∷ nothing_more)
+    ++ (pos 7 ∷ pos 4 ∷ pos 3 ∷ pos 1 ∷ pos 10000 ∷ pos 10 ∷ nothing_more)
+    ++ (pos 8 ∷ pos 2 ∷ pos 0 ∷ pos 0 ∷ pos 0 ∷ pos 0 ∷ nothing_more)
     ++ (pos 9 ∷ pos 5937 ∷ pos 5951 ∷ pos 6043 ∷ pos 6067 ∷ pos 6800 ∷ pos 40300 ∷ pos 0 ∷ pos 0 ∷ pos 0 ∷ pos 0 ∷ [])
-    ++ (pos 10 ∷ pos 46850 ∷ pos 47880 ∷ pos 0 ∷ pos 0 ∷ nothing_more)
-    ++ (pos 11 ∷ pos 0 ∷ pos 0 ∷ pos 0 ∷ pos 0 ∷ nothing_more)
-    ++ (pos 12 ∷ pos 2 ∷ pos 0 ∷ pos 0 ∷ pos 0 ∷ nothing_more)
+    ++ (pos 10 ∷ pos 46850 ∷ pos 47880 ∷ pos 0 ∷ pos 0 ∷ pos 0 ∷ nothing_more)
+    ++ (pos 11 ∷ pos 0 ∷ pos 0 ∷ pos 0 ∷ pos 0 ∷ pos 0 ∷ nothing_more)
+    ++ (pos 12 ∷ pos 2 ∷ pos 0 ∷ pos 0 ∷ pos 0 ∷ pos 0 ∷ nothing_more)
     ++ (pos 4 ∷ [])
 
 pub example_entries : entries_of example
-    ≡ asks (open_line (pos 4) (pos 3) (pos 1) (pos 10000))
+    ≡ asks (open_line (pos 4) (pos 3) (pos 1) (pos 10000) (pos 1))
     ∷ asks (station (pos 4687) (pos 4787) ((pos 1571 ∷ pos 1197 ∷ pos 1384 ∷ pos 6171 ∷ []) ∷ (pos 739 ∷ pos 363 ∷ pos 551 ∷ pos 5239 ∷ []) ∷ []))
-    ∷ asks (close_line (pos 2) (negsuc 0)) ∷ asks (open_spur (pos 4) (pos 3) (pos 1) (pos 10000)) ∷ asks (close_spur (pos 2))
+    ∷ asks (close_line (pos 2) (negsuc 0)) ∷ asks (open_spur (pos 4) (pos 3) (pos 1) (pos 10000) (pos 10)) ∷ asks (close_spur (pos 2))
     ∷ asks (collimation (pos 5937 ∷ pos 5951 ∷ pos 6043 ∷ pos 6067 ∷ pos 6800 ∷ pos 40300 ∷ [])) ∷ asks (constants (pos 46850) (pos 47880)) ∷ asks lift_section ∷ refused 1 ∷ refused 1 ∷ []
 unfolding first_entries first_record tag_of
 example_entries = refl
