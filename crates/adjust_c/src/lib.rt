@@ -7,12 +7,18 @@ ghost use Rattle.adjust.specs.Legs.{leg_sections};
 
 use adjust::entry::Leg;
 
-// The adjusted heights of the lent legs between two known heights, one a leg, into the lent list; the answer is document 01's number, 0 for a
-// call that is taken.
+// The adjusted heights of the lent legs between two known heights, one a leg, printed in so many units to a millimetre, into the lent list; the answer is the
+// documents' number, 0 for a call that is taken.
 #[unsafe(no_mangle)]
-pub extern "C" fn level_adjust(legs: &[Leg], start: i64, end: i64, heights: &mut [i64]) -> u8
-    ensures number { result ≡ adjust_refusal start end (leg_sections legs.now) (length heights.old) }
-    ensures heights { heights.new ≡ heights_after start end (leg_sections legs.now) heights.old }
+pub extern "C" fn level_adjust(
+    legs: &[Leg],
+    start: i64,
+    end: i64,
+    prints: i64,
+    heights: &mut [i64],
+) -> u8
+    ensures number { result ≡ adjust_refusal start end prints (leg_sections legs.now) (length heights.old) }
+    ensures heights { heights.new ≡ heights_after start end prints (leg_sections legs.now) heights.old }
 {
-    adjust::entry::level_adjust(legs, start, end, heights)
+    adjust::entry::level_adjust(legs, start, end, prints, heights)
 }

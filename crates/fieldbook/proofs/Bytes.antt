@@ -8,11 +8,12 @@ use borrow.Author.Tests.{ltb-false}
 use lib.ListN.{length, drop, length-append, length-drop, length-map}
 use lib.IntN.{ℤ, pos, ◌*ℤ◌}
 use Rattle.std.specs.Prelude.{Some, None, take}
+use Rattle.adjust.specs.declared.prints.PrintUnit.{PrintUnit}
 use Rattle.adjust.specs.declared.Point.{Point}
 use Rattle.adjust.specs.Line.{line_frame, Closing}
 use Rattle.adjust.proofs.Lists.{points_length}
 use Rattle.columns.specs.Decimals.{same}
-use Rattle.columns.specs.Lines.{fields, line_fits, line_with, tag_line, is_wide, heading}
+use Rattle.columns.specs.Lines.{fields, line_fits, line_with, tag_line, heading}
 use Rattle.columns.specs.Texts.{lines_by, lines, joined}
 use Rattle.columns.proofs.Lines.{length_with, length_title, fits_line}
 use Rattle.rules.specs.declared.Stage.{Stage}
@@ -20,7 +21,7 @@ use Rattle.rules.specs.declared.Stage.TheVariants.{Fresh, Open, Closed}
 use Rattle.rules.specs.LineState.{is_closed}
 use Rattle.ledger.specs.Plain.{Reading, fresh_reading, section_of, figures_of}
 use Rattle.textbook.specs.Text.{RefusedLine, most_text, too_long, line_refusals, refusals_from, reading_after}
-use Rattle.fieldbook.specs.Report.{ref_line, closed_numbers, point_numbers, point_line, opn_line, closing_lines, result_lines, report_of, without_heading, report_lines, report}
+use Rattle.fieldbook.specs.Report.{ref_line, closed_numbers, point_numbers, wide_point, point_line, opn_line, closing_lines, result_lines, report_of, without_heading, report_lines, report}
 use Rattle.fieldbook.specs.Fits.{ReportFits, PrintedFits}
 use Rattle.fieldbook.proofs.Size.{stage_lines, waiting_lines, least, lines_count}
 
@@ -56,32 +57,32 @@ append_short (x ∷ xs) ys s t = (s.0, append_short xs ys s.1 t)
 pub ref_short : (x : RefusedLine) → length (ref_line x) ≤ 84
 ref_short x = tag_short (82 ∷ 69 ∷ 70 ∷ []) (pos x.line ∷ pos x.number ∷ []) false
 
-point_short : (p : Point) → length (point_line p) ≤ 84
-point_short p = tag_short (80 ∷ 78 ∷ 84 ∷ []) (point_numbers p) (is_wide p.height)
+point_short : (unit : PrintUnit) (p : Point) → length (point_line unit p) ≤ 84
+point_short unit p = tag_short (80 ∷ 78 ∷ 84 ∷ []) (point_numbers p) (wide_point unit p)
 
-closing_short : (c : Closing) → Short (closing_lines c)
-closing_short c =
+closing_short : (unit : PrintUnit) (c : Closing) → Short (closing_lines unit c)
+closing_short unit c =
     let s = c.summary in
-    (tag_short (67 ∷ 76 ∷ 79 ∷ []) (closed_numbers s) false, map_short point_line point_short c.points)
+    (tag_short (67 ∷ 76 ∷ 79 ∷ []) (closed_numbers s) false, map_short (point_line unit) (point_short unit) c.points)
 
 result_short : (r : Reading) → Short (result_lines r)
 result_short r = go (is_closed r.stage)
   where
-    go : (b : Bool) → Short (cond b (closing_lines (figures_of r)) (opn_line (length r.sections) ∷ []))
-    go true = closing_short (figures_of r)
+    go : (b : Bool) → Short (cond b (closing_lines r.opening.print_unit (figures_of r)) (opn_line (length r.sections) ∷ []))
+    go true = closing_short r.opening.print_unit (figures_of r)
     go false = (tag_short (79 ∷ 80 ∷ 78 ∷ []) (pos (length r.sections) ∷ []) false, tt)
 
 -- a line for each section and two more
-closing_count : (r : Reading) → length (closing_lines (figures_of r)) ≡ suc (suc (length r.sections))
+closing_count : (r : Reading) → length (closing_lines r.opening.print_unit (figures_of r)) ≡ suc (suc (length r.sections))
 closing_count r =
     let ss = map (section_of r.opening.staffs) r.sections in
     let f = line_frame r.opening r.end ss in
-    ap suc (length-map (figures_of r).points point_line) ∙ ap (λ (n : ℕ). suc (suc n)) (points_length f (pos 0) (pos 0) (f.prints *ℤ f.start) ss ∙ length-map r.sections (section_of r.opening.staffs))
+    ap suc (length-map (figures_of r).points (point_line r.opening.print_unit)) ∙ ap (λ (n : ℕ). suc (suc n)) (points_length f (pos 0) (pos 0) (f.prints *ℤ f.start) ss ∙ length-map r.sections (section_of r.opening.staffs))
 
 result_few : (r : Reading) → length (result_lines r) ≤ least r + 1
 result_few r = go r.stage
   where
-    go : (s : Stage) → length (cond (is_closed s) (closing_lines (figures_of r)) (opn_line (length r.sections) ∷ []))
+    go : (s : Stage) → length (cond (is_closed s) (closing_lines r.opening.print_unit (figures_of r)) (opn_line (length r.sections) ∷ []))
         ≤ stage_lines s + 3 * length r.sections + waiting_lines r.waiting + length r.present + 1
     go Fresh = omega arith
     go Open = omega arith

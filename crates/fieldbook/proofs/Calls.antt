@@ -9,13 +9,14 @@ use Rattle.numbers.specs.Numbers.{put_at}
 use Rattle.columns.specs.Lines.{heading, title}
 use Rattle.columns.specs.Texts.{lines, joined}
 use Rattle.columns.proofs.Compare.{same_refl}
+use Rattle.adjust.specs.declared.prints.PrintUnit.{PrintUnit}
 use Rattle.adjust.specs.Line.{Closing}
 use Rattle.adjust.specs.Sections.{holding}
 use Rattle.rules.specs.declared.Stage.{Stage}
 use Rattle.rules.specs.declared.Stage.TheVariants.{Fresh, Open, Closed}
 use Rattle.rules.specs.declared.Book.{Book}
 use Rattle.rules.specs.declared.call.Call.{Call}
-use Rattle.rules.specs.LineState.{is_closed}
+use Rattle.rules.specs.LineState.{LineState, is_closed}
 use Rattle.ledger.specs.Plain.{Reading, fresh_reading, after, section_of, figures_of}
 use Rattle.ledger.specs.Trace.{SoundTrace}
 use Rattle.ledger.proofs.Every.{every_list, same_figures, none_given}
@@ -34,8 +35,8 @@ every_text ls e =
     record {
       closing = every_list (calls_of ls) shut;
       printed =
-          ap (λ (s : Stage). cond (is_closed s) (closing_lines (figures_of r)) (opn_line (length r.sections) ∷ [])) e
-          ∙ ap closing_lines (ap figures_of same ∙ same_figures (every_list (calls_of ls) shut));
+          ap (λ (s : Stage). cond (is_closed s) (closing_lines r.opening.print_unit (figures_of r)) (opn_line (length r.sections) ∷ [])) e
+          ∙ ap (closing_lines r.opening.print_unit) (ap figures_of same ∙ same_figures (every_list (calls_of ls) shut));
     }
 
 pub text_as_made : TextAsMade
@@ -54,10 +55,14 @@ text_as_made ls b e ns gs f t = (numbers_calls fresh_reading (entries ls) ∙ sy
     sound : SoundTrace calls ns gs e
     sound = every_trace b e calls ns gs f t
 
+    -- the book keeps the print unit
+    unit : r.opening.print_unit ≡ e.line.opening.print_unit
+    unit = ap (λ (s : Reading). s.opening.print_unit) same ∙ ap (λ (v : LineState). v.line.opening.print_unit) (sym sound.holds)
+
     -- a line that is not closed gave nothing, and the book counts its sections
     open_made : is_closed r.stage ≡ false → (r.stage ≡ Closed → ⊥) → result_lines r ≡ made_lines gs e
     open_made k n =
-        ap (λ (x : Bool). cond x (closing_lines (figures_of r)) (opn_line (length r.sections) ∷ [])) k
+        ap (λ (x : Bool). cond x (closing_lines r.opening.print_unit (figures_of r)) (opn_line (length r.sections) ∷ [])) k
         ∙ ap (λ (m : ℕ). opn_line m ∷ [])
         (ap (λ (s : Reading). length s.sections) same ∙ sym (length-map (after fresh_reading calls).sections (section_of (after fresh_reading calls).opening.staffs)) ∙ ap (λ (x : Book). x.sections.count) (sym sound.book))
         ∙ ap (λ (l : List Closing). made_lines l e) (sym (sound.given ∙ none_given calls fresh_reading (λ c. n (ap (λ (s : Reading). s.stage) same ∙ c))))
@@ -65,7 +70,7 @@ text_as_made ls b e ns gs f t = (numbers_calls fresh_reading (entries ls) ∙ sy
     go : (s : Stage) → r.stage ≡ s → result_lines r ≡ made_lines gs e
     go Closed k =
         let p = every_text ls k in
-        p.printed ∙ ap (λ (l : List Closing). made_lines l e) (sym (sound.given ∙ p.closing.once))
+        p.printed ∙ ap (λ (u : PrintUnit). closing_lines u p.closing.gave) unit ∙ ap (λ (l : List Closing). made_lines l e) (sym (sound.given ∙ p.closing.once))
     go Open k = open_made (ap is_closed k) (λ c. open_not_closed (sym k ∙ c))
     go Fresh k = open_made (ap is_closed k) (λ c. fresh_not_closed (sym k ∙ c))
 

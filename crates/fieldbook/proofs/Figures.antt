@@ -3,7 +3,7 @@ use mathlib.Core.Path.{◌≡◌, ap}
 use mathlib.Core.Bool.{Bool, true, false, cond}
 use mathlib.Core.List.{List, [], ◌∷◌}
 use Prim.Native.Nat.{ℕ, ◌+◌, ◌*◌, ◌≤◌, ◌<◌}
-use native.Mathlib.Nat.{mul-le-mul, le_of_mul-le-mul_left}
+use native.Mathlib.Nat.{le_refl, mul-le-mul, le_of_mul-le-mul_left}
 use native.Mathlib.Omega.{arith}
 use lib.IntN.{ℤ, pos, nat_abs, ◌+ℤ◌, ◌-ℤ◌, ◌*ℤ◌}
 use lib.Signed.{◌≤ℤ◌}
@@ -24,6 +24,9 @@ use Rattle.adjust.specs.declared.Verdict.{Verdict}
 use Rattle.adjust.specs.declared.Verdict.TheVariants.{NotGiven, Within, Above}
 use Rattle.adjust.specs.Line.{units_of, exact_top, accidental, section_error, accidental_sum, verdict_number}
 use Rattle.adjust.proofs.Lists.{Fit, fit_head, fit_tail}
+use Rattle.adjust.specs.declared.prints.PrintUnit.{PrintUnit}
+use Rattle.adjust.specs.declared.prints.PrintUnit.TheVariants.{Millimetres, Tenths}
+use Rattle.adjust.specs.Prints.{prints_of}
 use Rattle.adjust.specs.declared.terms.Terms.{Terms}
 use Rattle.adjust.specs.Sizes.{most_l}
 use Rattle.adjust.specs.Terms.{terms_by}
@@ -96,20 +99,27 @@ by_difference a b = omega (arith, parts_sub a b, parts_abs (a -ℤ b), parts_abs
 by_sum : (a b : ℤ) → nat_abs a ≤ nat_abs (a +ℤ b) + nat_abs b
 by_sum a b = omega (arith, parts_add a b, parts_abs (a +ℤ b), parts_abs a, parts_abs b)
 
--- with Q and W in the units of the staffs, and heights printed in mm
-abbrev pub millimetres : Staffs → ℤ → ℤ → ℤ → Frame
-millimetres c start closing total = record { units = units_of c; prints = pos 1; start = start; closure = closing; total = total }
+-- with Q and W in the units of the staffs, and heights in the print unit
+abbrev pub printed : Staffs → PrintUnit → ℤ → ℤ → ℤ → Frame
+printed c unit start closing total = record { units = units_of c; prints = pos (prints_of unit); start = start; closure = closing; total = total }
 
 pub some_scale : (c : Staffs) → 0 < scale_of c
 some_scale Nominal = omega arith
 some_scale (Measured first second) = omega arith
 
-module _ (c : Staffs) (start closing total : ℤ) (begins : nat_abs start ≤ 8999999) (closes : nat_abs closing ≤ most_closure c) (long : pos 1 ≤ℤ total) where
+some_prints : (unit : PrintUnit) → 0 < prints_of unit
+some_prints Millimetres = omega arith
+some_prints Tenths = omega arith
+
+module _ (c : Staffs) (unit : PrintUnit) (start closing total : ℤ) (begins : nat_abs start ≤ 8999999) (closes : nat_abs closing ≤ most_closure c) (long : pos 1 ≤ℤ total) where
   abbrev f : Frame
-  f = millimetres c start closing total
+  f = printed c unit start closing total
 
   abbrev k : ℕ
   k = scale_of c
+
+  abbrev p : ℕ
+  p = prints_of unit
 
   abbrev l : ℕ
   l = nat_abs total
@@ -121,22 +131,21 @@ module _ (c : Staffs) (start closing total : ℤ) (begins : nat_abs start ≤ 89
   divisor = abs_mul (units_of c) total
 
   -- 4 × 8,999,999 for the start, 64 × 4,802,400 for the sections and 80,000 for W, by the parts of the constants
-  exact_small : (q s : ℤ) → nat_abs q ≤ 307353600 * k → nat_abs s ≤ l → nat_abs (exact_top f q s) ≤ 343433596 * (k * l)
+  exact_small : (q s : ℤ) → nat_abs q ≤ 307353600 * k → nat_abs s ≤ l → nat_abs (exact_top f q s) ≤ p * (343433596 * (k * l))
   exact_small q s hq hs =
       let b = units_of c *ℤ start in
       let begin : nat_abs b ≤ 4 * k * 8999999 = mul_small (units_of c) start (4 * k) 8999999 (omega arith) begins in
-      omega (
+      mul_small (pos p) (b *ℤ total +ℤ q *ℤ total -ℤ closing *ℤ s) p (343433596 * (k * l)) (omega arith) (omega (
         arith,
-        abs_mul (pos 1) (b *ℤ total +ℤ q *ℤ total -ℤ closing *ℤ s),
         abs_sub (b *ℤ total +ℤ q *ℤ total) (closing *ℤ s),
         abs_add (b *ℤ total) (q *ℤ total),
         mul_small b total (4 * k * 8999999) l begin (omega arith),
         mul_small q total (307353600 * k) l hq (omega arith),
         mul_small closing s (most_closure c) l closes hs,
-      )
+      ))
 
   pub height_small : (q s h : ℤ) → nat_abs q ≤ 307353600 * k → nat_abs s ≤ l
-      → 2 * nat_abs (units_of c *ℤ total *ℤ h -ℤ exact_top f q s) ≤ nat_abs (units_of c *ℤ total) → nat_abs h ≤ 85858400
+      → 2 * nat_abs (units_of c *ℤ total *ℤ h -ℤ exact_top f q s) ≤ nat_abs (units_of c *ℤ total) → nat_abs h ≤ 85858400 * p
   height_small q s h hq hs near = le_of_mul-le-mul_left by_length both
     where
       both : 0 < k * l
@@ -145,14 +154,20 @@ module _ (c : Staffs) (start closing total : ℤ) (begins : nat_abs start ≤ 89
       product : nat_abs (units_of c *ℤ total *ℤ h) ≡ 4 * k * l * nat_abs h
       product = rw (abs_mul (units_of c *ℤ total) h, divisor)
 
-      by_length : k * l * nat_abs h ≤ k * l * 85858400
-      by_length = omega (arith, near, divisor, product, exact_small q s hq hs, by_difference (units_of c *ℤ total *ℤ h) (exact_top f q s))
+      more : 1 * (k * l) ≤ p * (k * l)
+      more = mul-le-mul (some_prints unit) (le_refl (k * l))
 
-  pub correction_small : (x r : ℤ) → nat_abs r ≤ l → nat_abs (x *ℤ total +ℤ pos 1 *ℤ closing *ℤ r) ≤ nat_abs (units_of c *ℤ total) → nat_abs x ≤ 80004 * k
+      by_length : k * l * nat_abs h ≤ k * l * (85858400 * p)
+      by_length = omega (arith, more, near, divisor, product, exact_small q s hq hs, by_difference (units_of c *ℤ total *ℤ h) (exact_top f q s))
+
+  pub correction_small : (x r : ℤ) → nat_abs r ≤ l → nat_abs (x *ℤ total +ℤ pos p *ℤ closing *ℤ r) ≤ nat_abs (units_of c *ℤ total) → nat_abs x ≤ 80004 * k * p
   correction_small x r hr near = le_of_mul-le-mul_left by_length some
     where
-      share : nat_abs (pos 1 *ℤ closing *ℤ r) ≤ most_closure c * l
-      share = mul_small (pos 1 *ℤ closing) r (most_closure c) l (omega (arith, closes, abs_mul (pos 1) closing)) hr
+      share : nat_abs (pos p *ℤ closing *ℤ r) ≤ p * most_closure c * l
+      share = mul_small (pos p *ℤ closing) r (p * most_closure c) l (mul_small (pos p) closing p (most_closure c) (omega arith) closes) hr
 
-      by_length : l * nat_abs x ≤ l * (80004 * k)
-      by_length = omega (arith, near, divisor, abs_mul x total, share, by_sum (x *ℤ total) (pos 1 *ℤ closing *ℤ r))
+      more : 1 * (k * l) ≤ p * (k * l)
+      more = mul-le-mul (some_prints unit) (le_refl (k * l))
+
+      by_length : l * nat_abs x ≤ l * (80004 * k * p)
+      by_length = omega (arith, more, near, divisor, abs_mul x total, share, by_sum (x *ℤ total) (pos p *ℤ closing *ℤ r))

@@ -68,10 +68,10 @@ module _ (r : Reading) (k : Kept (plain_state r)) where
 
   book_lines_lem : book_lines (book_of r) ≡ result_lines r
   book_lines_lem =
-      (λ i. cond (eqb (told_number i) 0) (closing_lines (told i)) (opn_line (sections_many i) ∷ []))
+      (λ i. cond (eqb (told_number i) 0) (closing_lines r.opening.print_unit (told i)) (opn_line (sections_many i) ∷ []))
       ∙ by_test (is_closed r.stage)
-      (λ t. cond (eqb (cond t 0 21) 0) (closing_lines (Plain.figures_of r)) (opn_line (length r.sections) ∷ [])
-      ≡ cond t (closing_lines (Plain.figures_of r)) (opn_line (length r.sections) ∷ []))
+      (λ t. cond (eqb (cond t 0 21) 0) (closing_lines r.opening.print_unit (Plain.figures_of r)) (opn_line (length r.sections) ∷ [])
+      ≡ cond t (closing_lines r.opening.print_unit (Plain.figures_of r)) (opn_line (length r.sections) ∷ []))
       (λ t. refl) (λ t. refl)
 
   told_closed : figures_refusal (book_of r) ≡ 0 → r.stage ≡ Closed
@@ -88,7 +88,7 @@ calls_printable calls =
           record {
             few = omega (arith, k.few, ap (λ (c : Closing). c.summary.count) same);
             summary = ap (λ (c : Closing). closed_fits c.summary) same ∙ fits.0;
-            points = ap (λ (c : Closing). any_of (λ (p : Point). not (point_fits p)) c.points) same ∙ fits.1;
+            points = ap (λ (c : Closing). any_of (λ (p : Point). not (point_fits r.opening.print_unit p)) c.points) same ∙ fits.1;
           };
     }
   where

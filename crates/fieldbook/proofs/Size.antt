@@ -58,7 +58,7 @@ open_lines Open e = refl
 open_lines Closed e = no_true e
 
 taken_least : (r : Reading) (c : Call) → refusal r c ≡ 0 → least (taken r c) ≤ least r + 1
-taken_least r (open_line order instrument number height) e = omega arith
+taken_least r (open_line order instrument number height prints) e = omega arith
 taken_least r (station kb kf readings) e = omega (arith, length-append r.present (station_of kb kf readings ∷ []))
 taken_least r (end_run number) e =
     ended r r.opening.class r.waiting number (two_at_least (length r.present) (fails (plain_state r) (end_run number) e 29))
@@ -67,7 +67,7 @@ taken_least r drop_section e = omega arith
 taken_least r (close_line number end) e =
     let opened = not-false (is_open r.stage) (fails (plain_state r) (close_line number end) e 21) in
     omega (arith, open_lines r.stage opened)
-taken_least r (open_spur order instrument number height) e = omega arith
+taken_least r (open_spur order instrument number height prints) e = omega arith
 taken_least r (collimation x) e = omega arith
 taken_least r (constants first second) e = omega arith
 taken_least r lift_section e = omega (arith, but_last_short r.sections)

@@ -12,6 +12,7 @@ use Rattle.numbers.proofs.Tables.{first_each}
 use Rattle.numbers.proofs.Tests.{by_test, is_true}
 use Rattle.numbers.proofs.All.{All, all_head, all_tail, all_cons, all_append}
 use Rattle.ledger.proofs.Kept.{calls_kept}
+use Rattle.adjust.specs.declared.prints.PrintUnit.{PrintUnit}
 use Rattle.adjust.specs.declared.Point.{Point}
 use Rattle.std.specs.Prelude.{Ok, Err}
 use Rattle.std.specs.declared.result.Result.{Result}
@@ -80,21 +81,21 @@ refusals_whole k r (l ∷ ls) h =
     subst AllWhole (sym (map-append ref_line here later))
     (all_append whole (map ref_line here) (map ref_line later) (refusal_whole k n (omega arith) (refusal_small r l)) (refusals_whole (suc k) s ls (omega arith)))
 
-points_whole : (ps : List Point) → All point_fits ps → AllWhole (map point_line ps)
-points_whole [] f = refl
-points_whole (p ∷ ps) f =
-    all_cons whole (point_line p) (map point_line ps) (is_whole (point_line p) (point_long p (all_head point_fits p ps f))) (points_whole ps (all_tail point_fits p ps f))
+points_whole : (unit : PrintUnit) (ps : List Point) → All (point_fits unit) ps → AllWhole (map (point_line unit) ps)
+points_whole unit [] f = refl
+points_whole unit (p ∷ ps) f =
+    all_cons whole (point_line unit p) (map (point_line unit) ps) (is_whole (point_line unit p) (point_long unit p (all_head (point_fits unit) p ps f))) (points_whole unit ps (all_tail (point_fits unit) p ps f))
 
 -- ---- the report
 
 result_whole : (calls : List Call) → AllWhole (result_lines (after fresh_reading calls))
 result_whole calls =
-    by_test (is_closed r.stage) (λ b. AllWhole (cond b (closing_lines (figures_of r)) (opn_line (length r.sections) ∷ [])))
+    by_test (is_closed r.stage) (λ b. AllWhole (cond b (closing_lines r.opening.print_unit (figures_of r)) (opn_line (length r.sections) ∷ [])))
     (λ b.
     let f = figures_fit_lem calls (closed_stage r.stage (is_true b)) in
     let x = figures_of r in
-    all_cons whole (closed_line x.summary) (map point_line x.points)
-    (is_whole (closed_line x.summary) (length_line (67 ∷ 76 ∷ 79 ∷ []) (closed_numbers x.summary) false f.0)) (points_whole x.points f.1))
+    all_cons whole (closed_line x.summary) (map (point_line r.opening.print_unit) x.points)
+    (is_whole (closed_line x.summary) (length_line (67 ∷ 76 ∷ 79 ∷ []) (closed_numbers x.summary) false f.0)) (points_whole r.opening.print_unit x.points f.1))
     (λ b. all_cons whole (opn_line n) [] (is_whole (opn_line n) (open_long n (omega (arith, (calls_kept calls).few, length-map r.sections (section_of r.opening.staffs))))) refl)
   where
     r : Reading

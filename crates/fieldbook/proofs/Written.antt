@@ -16,11 +16,12 @@ use Rattle.numbers.proofs.All.{all_head, all_tail}
 use Rattle.numbers.proofs.Arrays.{length_put_at, put_after, put_all, drop_next}
 use Rattle.records.specs.declared.Refusal.{Refusal}
 use Rattle.records.proofs.Numbered.{not_zero}
+use Rattle.adjust.specs.declared.prints.PrintUnit.{PrintUnit}
 use Rattle.adjust.specs.declared.Point.{Point}
 use Rattle.adjust.specs.declared.LineFigures.{LineFigures}
 use Rattle.adjust.specs.Frames.{no_point}
 use Rattle.columns.specs.Buffers.{placed}
-use Rattle.columns.specs.Lines.{width_of, all_fit, columns_of, line_fits, tag_line, is_wide, title}
+use Rattle.columns.specs.Lines.{width_of, all_fit, columns_of, line_fits, tag_line, title}
 use Rattle.columns.specs.Texts.{joined}
 use Rattle.columns.proofs.Lists.{part_rest}
 use Rattle.columns.proofs.Put.{placed_room}
@@ -30,7 +31,7 @@ use Rattle.rules.specs.declared.Book.{Book}
 use Rattle.book.specs.Calls.{closing_in, figures_refusal, Tells, told_of}
 use Rattle.textbook.specs.declared.text.State.{State}
 use Rattle.textbook.specs.Text.{refusals_from}
-use Rattle.fieldbook.specs.Report.{ref_line, closed_numbers, closed_line, point_numbers, point_line, opn_line}
+use Rattle.fieldbook.specs.Report.{ref_line, closed_numbers, closed_line, point_numbers, wide_point, point_line, opn_line}
 use Rattle.fieldbook.specs.Fits.{point_fits}
 use Rattle.fieldbook.specs.code.Printed.{Puts, refusal_lines, figures_lines, book_lines, below_title, state_lines, points_fit, ClosingFits}
 use Rattle.fieldbook.proofs.Widths.{small_fits}
@@ -128,60 +129,60 @@ module _ (ns : List ℕ) where
 
 -- ---- points
 
-module _ (ps : List Point) (k : ℕ) where
+module _ (unit : PrintUnit) (ps : List Point) (k : ℕ) where
   -- the points from k on
   abbrev pub points_left : List ℕ
-  points_left = joined (map point_line (drop k ps))
+  points_left = joined (map (point_line unit) (drop k ps))
 
   pub no_point_left : length ps ≤ k → points_left ≡ []
   unfolding joined
-  no_point_left h = ap (λ (x : List Point). joined (map point_line x)) (drop_of_length-le ps {i = k} h)
+  no_point_left h = ap (λ (x : List Point). joined (map (point_line unit) x)) (drop_of_length-le ps {i = k} h)
 
   module _ (h : k < length ps) where
-    pub points_turn : points_left ≡ point_line (get_or ps k no_point) ++ joined (map point_line (drop (k + 1) ps))
+    pub points_turn : points_left ≡ point_line unit (get_or ps k no_point) ++ joined (map (point_line unit) (drop (k + 1) ps))
     unfolding joined
-    points_turn = ap (λ (x : List Point). joined (map point_line x)) (drop_next ps k no_point h)
+    points_turn = ap (λ (x : List Point). joined (map (point_line unit) x)) (drop_next ps k no_point h)
 
-    module _ (f : points_fit (drop k ps)) where
-      both : points_fit (get_or ps k no_point ∷ drop (k + 1) ps)
-      both = subst points_fit (drop_next ps k no_point h) f
+    module _ (f : points_fit unit (drop k ps)) where
+      both : points_fit unit (get_or ps k no_point ∷ drop (k + 1) ps)
+      both = subst (points_fit unit) (drop_next ps k no_point h) f
 
-      pub first_fits : point_fits (get_or ps k no_point) ≡ true
-      first_fits = all_head point_fits (get_or ps k no_point) (drop (k + 1) ps) both
+      pub first_fits : point_fits unit (get_or ps k no_point) ≡ true
+      first_fits = all_head (point_fits unit) (get_or ps k no_point) (drop (k + 1) ps) both
 
-      pub others_fit : points_fit (drop (k + 1) ps)
-      others_fit = all_tail point_fits (get_or ps k no_point) (drop (k + 1) ps) both
+      pub others_fit : points_fit unit (drop (k + 1) ps)
+      others_fit = all_tail (point_fits unit) (get_or ps k no_point) (drop (k + 1) ps) both
 
-pub point_long : (p : Point) → point_fits p ≡ true → length (point_line p) ≡ 84
-point_long p e = length_line (80 ∷ 78 ∷ 84 ∷ []) (point_numbers p) (is_wide p.height) e
+pub point_long : (unit : PrintUnit) (p : Point) → point_fits unit p ≡ true → length (point_line unit p) ≡ 84
+point_long unit p e = length_line (80 ∷ 78 ∷ 84 ∷ []) (point_numbers p) (wide_point unit p) e
 
-pub points_long : (ps : List Point) → points_fit ps → length (joined (map point_line ps)) ≡ 84 * length ps
+pub points_long : (unit : PrintUnit) (ps : List Point) → points_fit unit ps → length (joined (map (point_line unit) ps)) ≡ 84 * length ps
 unfolding joined
-points_long [] f = refl
-points_long (p ∷ ps) f =
-    omega (arith, length-append (point_line p) (joined (map point_line ps)), point_long p (all_head point_fits p ps f), points_long ps (all_tail point_fits p ps f))
+points_long unit [] f = refl
+points_long unit (p ∷ ps) f =
+    omega (arith, length-append (point_line unit p) (joined (map (point_line unit) ps)), point_long unit p (all_head (point_fits unit) p ps f), points_long unit ps (all_tail (point_fits unit) p ps f))
 
 -- ---- what closing the line gave
 
-module _ (f : LineFigures) where
-  pub closing_bytes : joined (figures_lines f) ≡ closed_line f.summary ++ joined (map point_line (closing_in f).points)
+module _ (unit : PrintUnit) (f : LineFigures) where
+  pub closing_bytes : joined (figures_lines unit f) ≡ closed_line f.summary ++ joined (map (point_line unit) (closing_in f).points)
   unfolding joined
   closing_bytes = refl
 
-  pub closing_long : length (joined (figures_lines f)) ≡ length (closed_line f.summary) + length (joined (map point_line (closing_in f).points))
-  closing_long = ap length closing_bytes ∙ length-append (closed_line f.summary) (joined (map point_line (closing_in f).points))
+  pub closing_long : length (joined (figures_lines unit f)) ≡ length (closed_line f.summary) + length (joined (map (point_line unit) (closing_in f).points))
+  closing_long = ap length closing_bytes ∙ length-append (closed_line f.summary) (joined (map (point_line unit) (closing_in f).points))
 
-  pub closed_long : ClosingFits f → length (closed_line f.summary) ≡ 84
+  pub closed_long : ClosingFits unit f → length (closed_line f.summary) ≡ 84
   closed_long fits = length_line (67 ∷ 76 ∷ 79 ∷ []) (closed_numbers f.summary) false fits.summary
 
-  pub given_long : ClosingFits f → length (joined (map point_line (closing_in f).points)) ≡ 84 * length (closing_in f).points
-  given_long fits = points_long (closing_in f).points fits.points
+  pub given_long : ClosingFits unit f → length (joined (map (point_line unit) (closing_in f).points)) ≡ 84 * length (closing_in f).points
+  given_long fits = points_long unit (closing_in f).points fits.points
 
 -- where the line is not closed
 pub book_open : (b : Book) (e : Refusal) → Tells b (Err e) → joined (book_lines b) ≡ opn_line b.sections.count
 unfolding joined
 book_open b e told =
-    ap (λ (t : Bool). joined (cond t (figures_lines (told_of b)) (opn_line b.sections.count ∷ []))) (ne_eqb (figures_refusal b) 0 (λ z. not_zero e (told.number ∙ z)))
+    ap (λ (t : Bool). joined (cond t (figures_lines b.line.opening.print_unit (told_of b)) (opn_line b.sections.count ∷ []))) (ne_eqb (figures_refusal b) 0 (λ z. not_zero e (told.number ∙ z)))
     ∙ append-nil (opn_line b.sections.count)
 
 -- ---- the report

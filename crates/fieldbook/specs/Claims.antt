@@ -16,7 +16,7 @@ use Rattle.fieldbook.specs.Report.{ref_line, closing_lines, opn_line, result_lin
 -- the lines' calls closed the line once and soundly, and that closing is what is printed
 pub record Printed (ls : List (List ℕ)) : Type 0 where
   pub closing : ClosedOnce (calls_of ls) (closings fresh_reading (calls_of ls))
-  pub printed : result_lines (reading_after fresh_reading ls) ≡ closing_lines closing.gave
+  pub printed : result_lines (reading_after fresh_reading ls) ≡ closing_lines (reading_after fresh_reading ls).opening.print_unit closing.gave
 
 -- whatever the lines after the first, refused ones among them
 abbrev pub EveryText : Type 0
@@ -25,7 +25,7 @@ EveryText = (ls : List (List ℕ)) → (reading_after fresh_reading ls).stage �
 -- what the report prints below its refusals, of closings that were given and of the book that was left
 abbrev pub made_lines : List Closing → Book → List (List ℕ)
 made_lines [] e = opn_line e.sections.count ∷ []
-made_lines (g ∷ gs) e = closing_lines g
+made_lines (g ∷ gs) e = closing_lines e.line.opening.print_unit g
 
 -- whoever makes the lines' calls of a fresh book one by one gets the numbers that the report has for the lines that are calls, and what it prints below
 abbrev pub TextAsMade : Type 0
@@ -39,7 +39,7 @@ TextAsMade =
 pub record Reported (text buffer : List ℕ) (ls : List (List ℕ)) : Type 0 where
   pub closing : ClosedOnce (calls_of ls) (closings fresh_reading (calls_of ls))
   pub bytes : buffer_after text buffer
-      ≡ put_at buffer 0 (joined (title ∷ (map ref_line (refusals_from 2 (line_refusals fresh_reading ls)) ++ closing_lines closing.gave)))
+      ≡ put_at buffer 0 (joined (title ∷ (map ref_line (refusals_from 2 (line_refusals fresh_reading ls)) ++ closing_lines (reading_after fresh_reading ls).opening.print_unit closing.gave)))
 
 -- whatever the text and the buffer, if the call is taken and the lines after the heading leave the line closed
 abbrev pub EveryReport : Type 0

@@ -1,5 +1,5 @@
 -- The report of a text, byte for byte, and what the call that writes it leaves in the lent buffer.
-use Rattle.std.specs.Prelude.{◌≡◌, Bool, false, cond, Some, None, IfOk, List, [], ◌∷◌, ◌++◌, map, ℕ, length, take, eqb, ltb, ℤ, pos}
+use Rattle.std.specs.Prelude.{◌≡◌, Bool, false, cond, ◌||◌, Some, None, IfOk, List, [], ◌∷◌, ◌++◌, map, ℕ, length, take, eqb, ltb, ℤ, pos}
 use Rattle.std.specs.Int.Signed.{lt_z}
 use Rattle.std.specs.declared.option.Option.{Option}
 use Rattle.std.specs.declared.result.Result.{Result}
@@ -7,6 +7,8 @@ use Rattle.numbers.specs.Numbers.{put_at}
 use Rattle.numbers.specs.Tables.{first_of}
 use Rattle.records.specs.declared.Refusal.{Refusal}
 use Rattle.records.specs.Refusals.{number_of}
+use Rattle.adjust.specs.declared.prints.PrintUnit.{PrintUnit}
+use Rattle.adjust.specs.Prints.{is_tenths}
 use Rattle.adjust.specs.declared.Point.{Point}
 use Rattle.adjust.specs.declared.Summary.{Summary}
 use Rattle.adjust.specs.Line.{Closing, verdict_number}
@@ -39,20 +41,24 @@ closed_line s = tag_line (67 ∷ 76 ∷ 79 ∷ []) (closed_numbers s) false
 abbrev pub point_numbers : Point → List ℤ
 point_numbers p = p.number ∷ p.distance ∷ p.correction ∷ p.height ∷ []
 
+-- whether the height takes sixteen columns: in tenths every one (document 02, W-214), in millimetres one below −9,999,999
+abbrev pub wide_point : PrintUnit → Point → Bool
+wide_point unit p = is_tenths unit || is_wide p.height
+
 -- "PNT"
-abbrev pub point_line : Point → List ℕ
-point_line p = tag_line (80 ∷ 78 ∷ 84 ∷ []) (point_numbers p) (is_wide p.height)
+abbrev pub point_line : PrintUnit → Point → List ℕ
+point_line unit p = tag_line (80 ∷ 78 ∷ 84 ∷ []) (point_numbers p) (wide_point unit p)
 
 -- "OPN", how many sections are finished
 abbrev pub opn_line : ℕ → List ℕ
 opn_line n = tag_line (79 ∷ 80 ∷ 78 ∷ []) (pos n ∷ []) false
 
-abbrev pub closing_lines : Closing → List (List ℕ)
-closing_lines c = closed_line c.summary ∷ map point_line c.points
+abbrev pub closing_lines : PrintUnit → Closing → List (List ℕ)
+closing_lines unit c = closed_line c.summary ∷ map (point_line unit) c.points
 
 -- of the reading after the last line
 abbrev pub result_lines : Reading → List (List ℕ)
-result_lines r = cond (is_closed r.stage) (closing_lines (figures_of r)) (opn_line (length r.sections) ∷ [])
+result_lines r = cond (is_closed r.stage) (closing_lines r.opening.print_unit (figures_of r)) (opn_line (length r.sections) ∷ [])
 
 -- ---- the report
 

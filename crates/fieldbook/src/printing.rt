@@ -6,6 +6,7 @@ ghost use Rattle.fieldbook.specs.Report.{ref_line, shown_t, closed_line, point_l
 ghost use Rattle.fieldbook.specs.Fits.{closed_fits, point_fits};
 ghost use Rattle.fieldbook.specs.code.Printed.{Puts, refusal_lines, figures_lines, book_lines, below_title, state_lines, points_fit, ClosingFits, Printable};
 
+use adjust::prints::PrintUnit;
 use adjust::{LineFigures, Point, Summary};
 use book::calls::figures_of;
 use columns::writer::{is_wide, put_line, put_title};
@@ -72,36 +73,37 @@ fn put_closed(buf: &mut [u8], s: &Summary) -> usize
     put_whole(buf, b"CLO", &numbers, false)
 }
 
-fn put_point(buf: &mut [u8], p: &Point) -> usize
-    requires { (84 ≤ length buf.old) × (point_fits p.now ≡ true) }
-    ensures { Puts (point_line p.now) buf.old buf.new result }
+fn put_point(buf: &mut [u8], unit: PrintUnit, p: &Point) -> usize
+    requires { (84 ≤ length buf.old) × (point_fits unit p.now ≡ true) }
+    ensures { Puts (point_line unit p.now) buf.old buf.new result }
 {
     let numbers = [p.number, p.distance, p.correction, p.height];
-    put_whole(buf, b"PNT", &numbers, is_wide(p.height))
+    let wide = unit.is_tenths() || is_wide(p.height);
+    put_whole(buf, b"PNT", &numbers, wide)
 }
 
 // The points: their length.
-fn put_points(buf: &mut [u8], points: &[Point]) -> usize
-    requires { (84 * length points.now ≤ length buf.old) × points_fit points.now }
-    ensures { Puts (joined (map point_line points.now)) buf.old buf.new result }
+fn put_points(buf: &mut [u8], unit: PrintUnit, points: &[Point]) -> usize
+    requires { (84 * length points.now ≤ length buf.old) × points_fit unit points.now }
+    ensures { Puts (joined (map (point_line unit) points.now)) buf.old buf.new result }
 {
     // A running index: the next part of the buffer begins where `put_point` says that the last one ended.
     let mut at = 0;
     for point in points {
-        at += put_point(&mut buf[at..], point);
+        at += put_point(&mut buf[at..], unit, point);
     }
     at
 }
 
 // What closing the line gave: its length.
 #[tactic(auto, using(crate::proofs::Written::put_closing))]
-fn put_closing(buf: &mut [u8], figures: &LineFigures) -> usize
-    requires { ClosingFits figures.now × (length (joined (figures_lines figures.now)) ≤ length buf.old) }
-    ensures { Puts (joined (figures_lines figures.now)) buf.old buf.new result }
+fn put_closing(buf: &mut [u8], unit: PrintUnit, figures: &LineFigures) -> usize
+    requires { ClosingFits unit figures.now × (length (joined (figures_lines unit figures.now)) ≤ length buf.old) }
+    ensures { Puts (joined (figures_lines unit figures.now)) buf.old buf.new result }
 {
     let n = figures.summary.count + 1;
     let at = put_closed(buf, &figures.summary);
-    at + put_points(&mut buf[at..], &figures.points[..n])
+    at + put_points(&mut buf[at..], unit, &figures.points[..n])
 }
 
 // What the report says of the book's line, CLO and PNT or OPN: its length.
@@ -110,7 +112,7 @@ fn put_book(buf: &mut [u8], b: &Book) -> usize
     ensures { Puts (joined (book_lines b.now)) buf.old buf.new result }
 {
     match figures_of(*b) {
-        Ok(figures) => put_closing(buf, &figures),
+        Ok(figures) => put_closing(buf, b.line.opening.print_unit, &figures),
         Err(_) => put_open(buf, b.sections.count),
     }
 }

@@ -10,7 +10,7 @@ module _ (c : goal.After-slice_known-in-loop-point-1) where
   long =
       let ps = c.args.points.now in
       let k = c.loop-point.point-index in
-      omega (arith, c.put_point-at.ensures.value, point_long (get_or ps k no_point) (first_fits ps k c.loop-point-test.true c.loop-point.invariant.fit))
+      omega (arith, c.put_point-at.ensures.value, point_long c.args.unit (get_or ps k no_point) (first_fits c.args.unit ps k c.loop-point-test.true c.loop-point.invariant.fit))
 
 pub overflow_add-at : goal.overflow_add-at
 overflow_add-at c = omega (arith, long c)
@@ -20,14 +20,14 @@ loop-point-preserved c =
     let ps = c.args.points.now in
     let k = c.loop-point.point-index in
     let h = c.loop-point-test.true in
-    let p = point_line (get_or ps k no_point) in
+    let p = point_line c.args.unit (get_or ps k no_point) in
     let after = c.put_point-at.ensures in
     let is = long c in
     record {
       room = omega (arith, is);
-      fit = others_fit ps k h c.loop-point.invariant.fit;
-      left = left_turn c.loop-point.invariant.left p (points_left ps (k + 1)) (points_turn ps k h) (omega (arith, is, after.value)) (part_put c.loop-point.buf c.put_point-at.new.buf p c.loop-point.at after.buf_after) (omega (arith, after.value));
+      fit = others_fit c.args.unit ps k h c.loop-point.invariant.fit;
+      left = left_turn c.loop-point.invariant.left p (points_left c.args.unit ps (k + 1)) (points_turn c.args.unit ps k h) (omega (arith, is, after.value)) (part_put c.loop-point.buf c.put_point-at.new.buf p c.loop-point.at after.buf_after) (omega (arith, after.value));
     }
 
 pub returns : goal.returns
-returns c = left_none c.loop-point.invariant.left (no_point_left c.args.points.now c.loop-point.point-index (omega arith))
+returns c = left_none c.loop-point.invariant.left (no_point_left c.args.unit c.args.points.now c.loop-point.point-index (omega arith))

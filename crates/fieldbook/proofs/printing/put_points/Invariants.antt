@@ -8,6 +8,6 @@ abbrev pub invariant-loop-point : goal.invariant-loop-point
 invariant-loop-point l =
     record {
       room : l.at ≡ 84 * l.point-index;
-      fit : points_fit (drop l.point-index l.points);
-      left : Left (points_left l.points 0) l.initial.buf (points_left l.points l.point-index) l.buf l.at;
+      fit : points_fit l.unit (drop l.point-index l.points);
+      left : Left (points_left l.unit l.points 0) l.initial.buf (points_left l.unit l.points l.point-index) l.buf l.at;
     }
