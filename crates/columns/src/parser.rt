@@ -169,10 +169,15 @@ fn read_record(line: &[u8], tag: Tag) -> Result<Record, Refusal>
     if !ends_from(line, 3 + 8 * n) {
         return Err(Refusal::NotARecord);
     }
-    if lacks_print_unit(line, tag) {
-        return read_numbers(&with_usual(line), tag, n);
-    }
-    read_numbers(line, tag, n)
+    // One call of `read_numbers`, which is then built in: by two, a text of stations takes 4 % more instructions.
+    let mut filled = [0u8; 84];
+    let whole = if lacks_print_unit(line, tag) {
+        filled = with_usual(line);
+        filled.as_slice()
+    } else {
+        line
+    };
+    read_numbers(whole, tag, n)
 }
 
 // A line of the text book: its record, or its refusal.
