@@ -16,7 +16,7 @@ use Rattle.adjust.specs.declared.Section.{Section}
 use Rattle.adjust.specs.declared.Point.{Point}
 use Rattle.adjust.specs.declared.Frame.{Frame}
 use Rattle.adjust.specs.Line.{frame, frame_of, line_length, line_height, exact_top, printed_height, points_after, section_points}
-use Rattle.adjust.specs.Claims.{Near, no_section, next_section, Sound, corrections, last_height, raw_heights, EveryAdjustment}
+use Rattle.adjust.specs.Claims.{Near, no_section, next_section, Sound, corrections, last_height, raw_heights}
 
 -- ---- identities
 
@@ -158,10 +158,6 @@ module _ (units : ℕ) (u : 0 < units) (prints : ℤ) (ss : List Section) (h : p
   -- whatever its closure
   pub line_near : (start w : ℤ) → let f : Frame = frame (pos units) prints start (record { closure = w; distance = line_length ss }) in Near f (pos 0) (pos 0) ss (section_points f ss)
   line_near start w = frame_near (frame (pos units) prints start (record { closure = w; distance = line_length ss })) (some units u h) (whole units u h) ss
-
--- in every print unit
-pub every_adjustment : EveryAdjustment
-every_adjustment prints start end ss some h = line_sound 4 (omega arith) (pos prints) ss h start end
 
 -- ---- a line without a closure
 

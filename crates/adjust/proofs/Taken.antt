@@ -1,10 +1,11 @@
--- An adjustment that is taken: its bounds, its frame, and its heights behind the first point of the array.
+-- An adjustment that is taken: its bounds, that it is sound in every print unit, its frame, and its heights behind the first point of the array.
 use Rattle.std.proofs.Common.{◌≡◌, List, map, ℕ, ◌≤◌, length, take, drop, sym, ap, ◌∙◌, arith}
 use mathlib.Core.Path.{subst}
 use lib.IntN.{ℤ, pos}
 use Rattle.std.proofs.lemmas.Int.{to_z-of_z}
 use Rattle.numbers.specs.Numbers.{filled, over}
 use Rattle.numbers.proofs.Filled.{filled_take}
+use Rattle.numbers.proofs.Parts.{ints}
 use Rattle.numbers.proofs.Tables.{zero_cond, nonzero_cond}
 use Rattle.adjust.specs.declared.Point.{Point}
 use Rattle.adjust.specs.declared.Section.{Section}
@@ -13,10 +14,12 @@ use Rattle.adjust.specs.declared.Totals.{Totals}
 use Rattle.adjust.specs.Line.{quarters, totals, frame, frame_of, line_length, section_points, points}
 use Rattle.adjust.specs.Frames.{no_point}
 use Rattle.adjust.specs.Call.{adjust_refusal, adjusted_heights}
+use Rattle.adjust.specs.Claims.{EveryAdjustment}
 use Rattle.adjust.specs.Sizes.{most_prints}
 use Rattle.adjust.specs.code.Bounds.{OneTo, Between, Fits, Framed}
 use Rattle.adjust.proofs.Lists.{points_length}
-use Rattle.adjust.proofs.Sized.{quarters_in, framed, adjustable}
+use Rattle.adjust.proofs.Lines.{line_sound}
+use Rattle.adjust.proofs.Sized.{long, quarters_in, framed, adjustable}
 
 -- ---- what a call that is not refused knows
 
@@ -35,6 +38,13 @@ module _ (start end prints : ℤ) (ss : List Section) (places : ℕ) (e : adjust
 
   pub taken_prints : OneTo most_prints prints
   taken_prints = (adjustable start end prints ss places e).2
+
+-- ---- it is sound in every print unit
+
+pub every_adjustment : EveryAdjustment
+every_adjustment prints start end asked ss places some e =
+    let b = taken_between start end asked ss places e in
+    line_sound 4 (omega arith) (pos prints) ss (omega (ints, long ss b.fits.legs, b.some)) start end
 
 -- ---- its frame, and its heights
 

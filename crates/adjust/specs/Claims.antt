@@ -1,11 +1,12 @@
 -- What is promised of the points of a line: between two known heights (demand 3 of document 01), in any units, and of a spur (document 02, W-202). The adjustment call's heights are those of such points (`adjusted_heights`).
-use Rattle.std.specs.Prelude.{◌≡◌, List, [], ◌∷◌, map, ℕ, ◌*◌, ◌≤◌, ℤ, pos, neg_ℤ, nat_abs, ◌+ℤ◌, ◌-ℤ◌, ◌*ℤ◌, ◌≤ℤ◌}
+use Rattle.std.specs.Prelude.{◌≡◌, List, [], ◌∷◌, map, ℕ, ◌*◌, ◌≤◌, ℤ, pos, neg_ℤ, nat_abs, ◌+ℤ◌, ◌-ℤ◌, ◌*ℤ◌}
 use Rattle.numbers.specs.Numbers.{sum, last_of}
 use Rattle.roots.specs.Round.{round_even}
 use Rattle.adjust.specs.declared.Section.{Section}
 use Rattle.adjust.specs.declared.Point.{Point}
 use Rattle.adjust.specs.declared.Frame.{Frame}
-use Rattle.adjust.specs.Line.{quarters, line_length, frame_of, exact_top, section_points}
+use Rattle.adjust.specs.Line.{quarters, frame_of, exact_top, section_points}
+use Rattle.adjust.specs.Call.{adjust_refusal}
 
 -- each printed height lies within half a print unit of the exact one, and each correction within one print unit of the exact share,
 -- −W × R / L: point by point with the sections, at running sums q and s
@@ -36,8 +37,8 @@ pub record Sound (f : Frame) (end : ℤ) (ss : List Section) (ps : List Point) :
   pub last : last_height (f.prints *ℤ f.start) ps ≡ f.prints *ℤ end
   pub near : Near f (pos 0) (pos 0) ss ps
 
--- document 02, W-214: whatever the print unit, of the adjustment call's points, in quarter mm; the sections that it takes are 1 long at least
+-- document 02, W-214: of an adjustment that is taken, whatever print unit was asked for, the points are sound in every one; in the one asked for they have the heights that are given
 abbrev pub EveryAdjustment : Type 0
 EveryAdjustment =
-    (prints : ℕ) (start end : ℤ) (ss : List Section) → 1 ≤ prints → pos 1 ≤ℤ line_length ss
+    (prints : ℕ) (start end asked : ℤ) (ss : List Section) (places : ℕ) → 1 ≤ prints → adjust_refusal start end asked ss places ≡ 0
     → let f : Frame = frame_of quarters (pos prints) start end ss in Sound f end ss (section_points f ss)

@@ -4,8 +4,8 @@ pub mod Terms
 pub mod Prints
 pub mod Line
 pub mod Kept
-pub mod Claims
 pub mod Frames
 pub mod Call
+pub mod Claims
 pub mod Legs
 pub mod code
