@@ -129,13 +129,18 @@ module _ (b : Book) (number height prints : ℤ) where
       opens (open_spur o k number height prints) (eq_z o (pos 4)) (eq_z k (pos 1) || eq_z k (pos 3)) Spur (instrument_of k) r
       (spur_refusal (state_of b) number height prints o k) refl refl (instrument k) h
 
--- either call c of five numbers that fit, as the machine reads them back, by its law above
+-- a call of five numbers that fit, as the machine reads them back
+pub stored_five : (call : ℤ → ℤ → ℤ → ℤ → ℤ → Call) {o k n h p : ℤ} → SFits w64 o → SFits w64 k → SFits w64 n → SFits w64 h → SFits w64 p
+    → call (stored o) (stored k) (stored n) (stored h) (stored p) ≡ call o k n h p
+stored_five call o k n h p = λ i. call (stored_id o i) (stored_id k i) (stored_id n i) (stored_id h i) (stored_id p i)
+
+-- either of these, which is c, by its law above
 pub opens_as : (b : Book) (call : ℤ → ℤ → ℤ → ℤ → ℤ → Call) (named : ℤ → Option Class)
     → ((number height prints o k : ℤ) (r : Result Change Refusal) → Opens b number height prints (named o) (instrument_named k) r → Decides b (call o k number height prints) r)
     → {o k n h p : ℤ} {c : Call} {r : Result Change Refusal} {y : Option Class} {z : Option Instrument} → SFits w64 o → SFits w64 k → SFits w64 n → SFits w64 h → SFits w64 p
     → c ≡ call o k n h p → y ≡ named (stored o) → z ≡ instrument_named (stored k) → Opens b (stored n) (stored h) (stored p) y z r → Decides b c r
 opens_as b call named law {o = order} {k = kind} {n = number} {h = height} {p = prints} {r = r} o k n h p is e q d =
-    subst (λ (x : Call). Decides b x r) ((λ i. call (stored_id o i) (stored_id k i) (stored_id n i) (stored_id h i) (stored_id p i)) ∙ sym is)
+    subst (λ (x : Call). Decides b x r) (stored_five call o k n h p ∙ sym is)
     (law (stored number) (stored height) (stored prints) (stored order) (stored kind) r
     (subst (λ (x : Option Class × Option Instrument). Opens b (stored number) (stored height) (stored prints) x.0 x.1 r) (λ i. (e i, q i)) d))
 
