@@ -78,6 +78,7 @@ has_print_unit Spr = true
 has_print_unit Fin = false
 has_print_unit Ang = false
 has_print_unit Kon = false
+has_print_unit Lft = false
 
 unfoldable pub lacks_print_unit : Tag → List ℕ → Bool
 lacks_print_unit t l = has_print_unit t && same (take 8 (drop 35 l)) (blanks 8)
