@@ -42,9 +42,12 @@ const WORDS: [&str; 12] = ["", "LEVEL BOOK", "PNT", "LIN", "SPR", "FIN", "ANG", 
 /// Tags to be written over others.
 const TAGS: [&[u8; TAG]; 11] = [b"LIN", b"STA", b"RUN", b"DRR", b"DRS", b"END", b"SPR", b"FIN", b"ANG", b"KON", b"LFT"];
 
-/// A text book with a random list of calls, one in two damaged.
+/// A text book with a random list of calls, one in two damaged; one in two has other print units.
 pub fn text_book(random: &mut Random) -> Vec<u8> {
     let mut text = text_of(&short_book(random, 776));
+    if random.chance(1, 2) {
+        set_prints(random, &mut text);
+    }
     if random.chance(1, 2) {
         for _ in 0..=random.below(4) {
             damage(random, &mut text);
@@ -102,6 +105,21 @@ fn set_field(random: &mut Random, text: &mut [u8], line: usize) {
     let field = *random.pick(&[0, 0, 0, 1, 1, 2, 3, 4, 5, 6, 7, 8, 9]);
     let place = line + TAG + field * FIELD;
     text[place..place + FIELD].copy_from_slice(*random.pick(&FIELDS));
+}
+
+/// Writes over the print unit of each opening: mostly blanks, 1 or 10, else another number or one of `FIELDS`.
+fn set_prints(random: &mut Random, text: &mut [u8]) {
+    let openings = text.chunks_mut(LINE).filter(|line| line.starts_with(b"LIN") || line.starts_with(b"SPR"));
+    for line in openings {
+        let field = match random.below(12) {
+            0..=5 => b"        ",
+            6 | 7 => b"       1",
+            8 | 9 => b"      10",
+            10 => random.pick::<&[u8; FIELD]>(&[b"       0", b"       2", b"     100", b"     -10"]),
+            _ => *random.pick(&FIELDS),
+        };
+        line[TAG + 4 * FIELD..][..FIELD].copy_from_slice(field);
+    }
 }
 
 /// A bad first field together with something in the last columns.

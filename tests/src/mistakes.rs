@@ -2,7 +2,7 @@
 //! closings that are not due, calls out of place.
 
 use crate::mutate::any_call;
-use crate::opening::{opening_call, usual};
+use crate::opening::opening_call;
 use crate::caller::{Goal, Caller};
 use crate::plain::{Call, Opened};
 use crate::rules::Class;
@@ -75,15 +75,24 @@ impl Caller<'_> {
         }
     }
 
-    /// An opening, one in three of any class.
+    /// An opening, one in three of any class, one in three with a print unit that there is not.
     pub fn doubtful_opening(&mut self) -> Call {
         let any = *self.random.pick(&Class::ALL);
         let class = if self.random.chance(1, 3) { any } else { self.style.class };
-        opening_call(class, self.opening_values())
+        let mut opened = self.opening_values();
+        if self.random.chance(1, 3) {
+            opened.prints = self.no_print_unit();
+        }
+        opening_call(class, opened)
+    }
+
+    /// A print unit that there is not.
+    pub fn no_print_unit(&mut self) -> i64 {
+        *self.random.pick(&[0, 2, 9, 11, 100, -1, -10])
     }
 
     /// What the line may be opened with: its order, numbers and heights at their limits
-    /// now and then.
+    /// now and then, one in two in tenths.
     pub fn opening_values(&mut self) -> Opened {
         let start = match self.random.below(20) {
             0 => 1,
@@ -96,7 +105,8 @@ impl Caller<'_> {
             2..=4 => self.random.between(-3_000, 3_000),
             _ => self.random.between(-100_000, 5_000_000),
         };
-        Opened { instrument: self.style.instrument, start, height, ..usual(self.style.class.order()) }
+        let (order, instrument) = (self.style.class.order(), self.style.instrument);
+        Opened { order, instrument, start, height, prints: *self.random.pick(&[1, 10]) }
     }
 
     /// A station with one of its figures at its limit.

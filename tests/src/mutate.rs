@@ -7,13 +7,17 @@ use crate::plain::{Call, Opened};
 use crate::random::Random;
 
 /// Values around the limits that documents 01 and 02 name, and extreme ones.
-const ODD_VALUES: [i64; 54] = [
+const ODD_VALUES: [i64; 58] = [
     0,
     1,
     2,
     3,
     4,
     5,
+    9,
+    10,
+    11,
+    100,
     -1,
     -2,
     9_999,
@@ -68,8 +72,8 @@ const ODD_VALUES: [i64; 54] = [
 pub fn arguments(call: &mut Call) -> Vec<&mut i64> {
     match call {
         Call::Open(opened) | Call::OpenSpur(opened) => {
-            let Opened { order, instrument, start, height } = opened;
-            vec![order, instrument, start, height]
+            let Opened { order, instrument, start, height, prints } = opened;
+            vec![order, instrument, start, height, prints]
         }
         Call::Station { back_k, fore_k, readings } => {
             let mut all = vec![back_k, fore_k];

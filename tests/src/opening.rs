@@ -3,9 +3,9 @@
 use crate::plain::{Call, Opened};
 use crate::rules::Class;
 
-/// With a DS3, from benchmark 1 at 10.000 m.
+/// With a DS3, from benchmark 1 at 10.000 m, printed in whole mm.
 pub fn usual(order: i64) -> Opened {
-    Opened { order, instrument: 3, start: 1, height: 10_000 }
+    Opened { order, instrument: 3, start: 1, height: 10_000, prints: 1 }
 }
 
 /// A1, B1, A2, B2, D1, D2 of source document 000, Table B7.

@@ -47,6 +47,8 @@ pub struct Opened {
     pub instrument: i64,
     pub start: i64,
     pub height: i64,
+    /// How many units of a printed height a mm has.
+    pub prints: i64,
 }
 
 /// A finished section: its number, its outward run and, at third order and on a
@@ -176,6 +178,7 @@ impl Reading {
         refuse_if(class.is_none() || !rules::instrument_allowed(opened.instrument), 3)?;
         refuse_if(!rules::number_allowed(opened.start), 4)?;
         refuse_if(!rules::height_allowed(opened.height), 5)?;
+        refuse_if(!rules::prints_allowed(opened.prints), 57)?;
         refuse_if(self.stage != Stage::Fresh, 21)?;
         self.stage = Stage::Open;
         self.class = class;

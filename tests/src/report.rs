@@ -1,11 +1,11 @@
-//! The report (document 01, "The text book and the report"; document 02, W-202).
+//! The report (document 01, "The text book and the report"; document 02, W-202, W-214).
 
 use crate::closing::{Closing, Point};
 use crate::plain::{Answer, Reading};
 use crate::text;
 use crate::write::{field, filled, line};
 
-/// A height below this one takes sixteen columns in place of eight.
+/// A height below this one takes sixteen columns in place of eight, and so does each in tenths.
 const LOWEST_IN_EIGHT: i64 = -9_999_999;
 
 /// CLO prints a larger T as this one.
@@ -62,10 +62,10 @@ pub fn report(refusals: &[(i64, u8)], sections: usize, closing: Option<&Closing>
     match closing {
         None => report.extend(line_of("OPN", &[sections as i64])),
         Some(closing) => {
-            let Closing { w, l, n, t, verdict, points } = closing;
+            let Closing { w, l, n, t, verdict, prints, points } = closing;
             report.extend(line_of("CLO", &[*w, *l, *n, LARGEST_T.min(*t), *verdict]));
             for point in points {
-                report.extend(point_line(point));
+                report.extend(point_line(point, *prints));
             }
         }
     }
@@ -77,8 +77,8 @@ fn line_of(tag: &str, numbers: &[i64]) -> Vec<u8> {
 }
 
 /// PNT with number, S, correction and height.
-fn point_line(point: &Point) -> Vec<u8> {
-    let wide = if point.height < LOWEST_IN_EIGHT { 16 } else { 8 };
+fn point_line(point: &Point, prints: i64) -> Vec<u8> {
+    let wide = if prints == 10 || point.height < LOWEST_IN_EIGHT { 16 } else { 8 };
     let fields = [
         field(point.number, 8),
         field(point.distance, 8),

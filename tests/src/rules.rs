@@ -135,6 +135,11 @@ pub fn height_allowed(height: i64) -> bool {
     (-999_999..=8_999_999).contains(&height)
 }
 
+/// Heights are printed in whole mm or in tenths (document 02, W-214).
+pub fn prints_allowed(prints: i64) -> bool {
+    prints == 1 || prints == 10
+}
+
 /// A square of D or W is so many times as large as in the units that the limits are for:
 /// 100 times with measured constants (document 02, W-203).
 fn square_of_parts(staffs: Staffs) -> i128 {

@@ -1,5 +1,5 @@
-//! The text book (document 01, "The text book and the report"; document 02, W-202 to W-204
-//! and W-210), read from any bytes.
+//! The text book (document 01, "The text book and the report"; document 02, W-202 to W-204,
+//! W-210 and W-214), read from any bytes.
 
 use crate::plain::{Call, Opened};
 
@@ -62,19 +62,25 @@ fn is_heading(piece: &[u8]) -> bool {
 /// How many fields a tag has.
 pub fn fields_of(tag: &[u8]) -> Option<usize> {
     match tag {
-        b"LIN" => Some(4),
+        b"LIN" => Some(5),
         b"STA" => Some(10),
         b"RUN" => Some(1),
         b"DRR" => Some(0),
         b"DRS" => Some(0),
         b"END" => Some(2),
-        b"SPR" => Some(4),
+        b"SPR" => Some(5),
         b"FIN" => Some(1),
         b"ANG" => Some(6),
         b"KON" => Some(2),
         b"LFT" => Some(0),
         _ => None,
     }
+}
+
+/// What a blank field stands for, counted from 0: the last one of LIN and SPR for tenths, any other
+/// for nothing.
+pub fn number_of_blanks(tag: &[u8], field: usize) -> Option<i64> {
+    (matches!(tag, b"LIN" | b"SPR") && field == 4).then_some(10)
 }
 
 /// 1 for the wrong shape or tag, or anything but blanks after the last field;
@@ -87,14 +93,17 @@ pub fn parse_line(piece: &[u8]) -> Result<Call, u8> {
     if !all_blank(beyond) {
         return Err(1);
     }
-    let numbers: Option<Vec<i64>> = fields.chunks(FIELD).map(number).collect();
+    let read = |(k, field)| if all_blank(field) { number_of_blanks(tag, k) } else { number(field) };
+    let numbers: Option<Vec<i64>> = fields.chunks(FIELD).enumerate().map(read).collect();
     Ok(call(tag, &numbers.ok_or(2)?))
 }
 
 /// The call of a known tag with as many numbers as the tag has fields. STA
 /// gives K, u, l, m, r of the back staff, then of the fore staff.
 fn call(tag: &[u8], n: &[i64]) -> Call {
-    let opened = || Opened { order: n[0], instrument: n[1], start: n[2], height: n[3] };
+    let opened = || {
+        Opened { order: n[0], instrument: n[1], start: n[2], height: n[3], prints: n[4] }
+    };
     match tag {
         b"LIN" => Call::Open(opened()),
         b"SPR" => Call::OpenSpur(opened()),

@@ -38,10 +38,11 @@ impl Caller<'_> {
         let spur = self.style.class == Class::Spur;
         let mut opened = self.opening_values();
         for _ in 0..=self.random.below(2) {
-            match self.random.below(4) {
+            match self.random.below(5) {
                 0 => opened.order = *self.random.pick(&[if spur { 3 } else { 2 }, 5, 0, -3]),
                 1 => opened.instrument = *self.random.pick(&[2, 0, 4, -1, 5]),
                 2 => opened.start = *self.random.pick(&[0, 10_000, -1]),
+                3 => opened.prints = self.no_print_unit(),
                 _ => opened.height = *self.random.pick(&[-1_000_000, 9_000_000]),
             }
         }

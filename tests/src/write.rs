@@ -30,10 +30,10 @@ pub fn heading() -> Vec<u8> {
 
 /// The tag and numbers of a call.
 pub fn words_of(call: &Call) -> (&'static str, Vec<i64>) {
-    let four = |Opened { order, instrument, start, height }| vec![order, instrument, start, height];
+    let five = |o: Opened| vec![o.order, o.instrument, o.start, o.height, o.prints];
     match *call {
-        Call::Open(opened) => ("LIN", four(opened)),
-        Call::OpenSpur(opened) => ("SPR", four(opened)),
+        Call::Open(opened) => ("LIN", five(opened)),
+        Call::OpenSpur(opened) => ("SPR", five(opened)),
         Call::Station { back_k, fore_k, readings: [back, fore] } => {
             let mut numbers = vec![back_k];
             numbers.extend(back);

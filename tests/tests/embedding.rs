@@ -40,7 +40,7 @@ fn page() -> Vec<(u8, String)> {
 fn meanings() {
     let table: Vec<(u8, String)> = (0..=255).filter_map(|number| Some((number, meaning(number)?.to_string()))).collect();
     assert_eq!(table, page());
-    assert!((1..=13).chain(20..=36).chain(41..=46).chain([53]).all(|number| meaning(number).is_some()));
+    assert!((1..=13).chain(20..=36).chain(41..=46).chain([53, 57]).all(|number| meaning(number).is_some()));
     let source = read_to_string(path("embed/refusals.def")).expect("the table");
     assert_eq!(source.lines().count(), 1 + table.len());
 }
@@ -86,7 +86,7 @@ fn a_list_in_c() {
 #include <stdio.h>
 int main(void)
 {
-    const int64_t list[LEVEL_CALL_NUMBERS + 1] = {1, 4, 3, 1, 10000};
+    const int64_t list[LEVEL_CALL_NUMBERS + 1] = {1, 4, 3, 1, 10000, LEVEL_TENTHS};
     uint8_t numbers[2] = {99, 99};
     int64_t figures[LEVEL_FIGURES];
     const size_t entries = level_run(list, LEVEL_CALL_NUMBERS + 1, numbers, 1, figures, LEVEL_FIGURES);
@@ -130,7 +130,7 @@ fn the_example_in_c() {
         assert_eq!((output.status.code(), output.stdout), (Some(0), example.report), "{}", example.name);
     }
     let adjusted = Command::new(&program).arg("adjust").output().expect("the example runs");
-    assert_eq!(adjusted.stdout, b"10657\n11206\n");
+    assert_eq!(adjusted.stdout, b"tenths of a mm: 106568 112060\nwhole mm: 10657 11206\n");
     let folder = Command::new(&program).stdin(File::open(path("examples")).expect("a folder")).output().expect("the example runs");
     assert_eq!((folder.status.code(), &folder.stdout[..]), (Some(1), &b""[..]));
     let long = Path::new(env!("CARGO_TARGET_TMPDIR")).join("long.book");

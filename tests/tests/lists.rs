@@ -12,6 +12,7 @@ use level_tests::plain::{Call, Opened, Reading};
 use level_tests::random::Random;
 use level_tests::rules::Class;
 use level_tests::write::numbers_of;
+use levelbook::PrintUnit;
 
 /// An entry that begins with these numbers; the others are anything.
 fn entry(random: &mut Random, first: &[i64]) -> [i64; 11] {
@@ -20,27 +21,33 @@ fn entry(random: &mut Random, first: &[i64]) -> [i64; 11] {
     numbers
 }
 
-/// The call as the package has it.
-fn typed(call: &Call) -> levelbook::Call {
+/// The print unit as the package has it; it has no other.
+fn unit(prints: i64) -> Option<PrintUnit> {
+    [PrintUnit::Millimetre, PrintUnit::Tenth].into_iter().find(|&one| one as i64 == prints)
+}
+
+/// The call as the package has it; an opening with another print unit is none.
+fn typed(call: &Call) -> Option<levelbook::Call> {
     let staff = |constant, [upper, lower, black, red]: [i64; 4]| levelbook::Staff { constant, upper, lower, black, red };
-    match *call {
-        Call::Open(Opened { order, instrument, start, height }) => levelbook::Call::Open { order, instrument, start, height },
+    Some(match *call {
+        Call::Open(Opened { order, instrument, start, height, prints }) => levelbook::Call::Open { order, instrument, start, height, prints: unit(prints)? },
         Call::Station { back_k, fore_k, readings } => levelbook::Call::Station { back: staff(back_k, readings[0]), fore: staff(fore_k, readings[1]) },
         Call::EndRun(number) => levelbook::Call::EndRun { number },
         Call::DropRun => levelbook::Call::DropRun,
         Call::DropSection => levelbook::Call::DropSection,
         Call::CloseLine { number, height } => levelbook::Call::CloseLine { number, height },
-        Call::OpenSpur(Opened { order, instrument, start, height }) => levelbook::Call::OpenSpur { order, instrument, start, height },
+        Call::OpenSpur(Opened { order, instrument, start, height, prints }) => levelbook::Call::OpenSpur { order, instrument, start, height, prints: unit(prints)? },
         Call::CloseSpur(number) => levelbook::Call::CloseSpur { number },
         Call::Collimation([a1, b1, a2, b2, d1, d2]) => levelbook::Call::Collimation { readings: [a1, b1, a2, b2], distances: [d1, d2] },
         Call::Constants([staff_4687, staff_4787]) => levelbook::Call::Constants { staff_4687, staff_4787 },
         Call::LiftSection => levelbook::Call::LiftSection,
-    }
+    })
 }
 
-/// What a list of calls as types gives: each call's number, and what the plain reading is left with.
+/// What a list of calls as types gives, where it has them: each call's number, and what the plain reading is left with.
 fn compare_typed(calls: &[Call], numbers: &[u8], reading: &Reading, closed: &Option<Closing>) {
-    let outcome = levelbook::run_calls(&calls.iter().map(typed).collect::<Vec<_>>());
+    let Some(list) = calls.iter().map(typed).collect::<Option<Vec<_>>>() else { return };
+    let outcome = levelbook::run_calls(&list);
     let point = |one: &Point| levelbook::Point { number: one.number, distance: one.distance, correction: one.correction, height: one.height };
     let closing = closed.as_ref().map(|one| levelbook::Closing {
         closure: one.w,
@@ -68,10 +75,12 @@ fn over<T: Copy>(list: &[T], old: &[T]) -> Vec<T> {
     written
 }
 
-/// In the counts, the closing of a line and of a spur, and of one with measured constants.
+/// In the counts, the closing of a line and of a spur, of one with measured constants, of one in tenths, and of one with both.
 const CLOSED: u8 = 100;
 const SPUR_CLOSED: u8 = 101;
 const MEASURED_CLOSED: u8 = 102;
+const TENTHS_CLOSED: u8 = 104;
+const MEASURED_TENTHS_CLOSED: u8 = 105;
 
 /// In the counts, a section that is lifted.
 const LIFTED: u8 = 103;
@@ -79,11 +88,14 @@ const LIFTED: u8 = 103;
 /// What a closing gives keeps its promises, whose exact fractions are computed from the standing list.
 fn check_closing(reading: &Reading, closing: &Closing, counts: &mut BTreeMap<u8, u64>) {
     let opened = reading.opened.expect("a closed line was opened");
-    let kept = closing_keeps_promises(reading.staffs.units(), opened.height, reading.end_height, &reading.sums_of_sections(), closing);
+    let kept = closing_keeps_promises(reading.units(opened), opened.height, reading.end_height, &reading.sums_of_sections(), closing);
     assert_eq!(kept, Ok(()), "{reading:?}");
     let which = if reading.class == Some(Class::Spur) { SPUR_CLOSED } else { CLOSED };
     *counts.entry(which).or_default() += 1;
-    *counts.entry(MEASURED_CLOSED).or_default() += u64::from(reading.staffs != Staffs::Nominal);
+    let (measured, tenths) = (reading.staffs != Staffs::Nominal, opened.prints == 10);
+    for (which, one) in [(MEASURED_CLOSED, measured), (TENTHS_CLOSED, tenths), (MEASURED_TENTHS_CLOSED, measured && tenths)] {
+        *counts.entry(which).or_default() += u64::from(one);
+    }
 }
 
 /// Runs a list of calls both ways, with entries of no kind between them and a rest behind them, and counts the calls' numbers, these 1s and the closings.
@@ -136,10 +148,11 @@ fn hundred_thousand_lists() {
         assert!(counts.get(&number).is_some_and(|&count| count >= 20), "too few of {number}: {counts:?}");
     }
     assert_eq!(counts.get(&20), None);
-    for number in (41..=46).chain([53, LIFTED]) {
+    for number in (41..=46).chain([53, 57, LIFTED]) {
         assert!(counts[&number] >= 5_000, "too few of {number}: {counts:?}");
     }
-    assert!(counts[&CLOSED] >= 20_000 && counts[&SPUR_CLOSED] >= 10_000 && counts[&MEASURED_CLOSED] >= 10_000, "too few closings: {counts:?}");
+    let closings = [(CLOSED, 20_000), (SPUR_CLOSED, 10_000), (MEASURED_CLOSED, 10_000), (TENTHS_CLOSED, 20_000), (MEASURED_TENTHS_CLOSED, 5_000)];
+    assert!(closings.iter().all(|(which, fewest)| counts[which] >= *fewest), "too few closings: {counts:?}");
 }
 
 /// Calls whose arguments are anything, in any order, one in two lists after an opening.

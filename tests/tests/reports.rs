@@ -36,7 +36,7 @@ fn twenty_thousand_books() {
     let mut random = Random::new(20_261_117);
     let mut refusals = BTreeMap::<i64, u64>::new();
     let mut verdicts = BTreeMap::<(bool, i64), u64>::new();
-    let mut large = 0;
+    let (mut large, mut whole, mut tenths) = (0, 0, 0);
     for _ in 0..20_000 {
         let mut text = text_book(&mut random);
         if random.chance(1, 8) {
@@ -53,18 +53,21 @@ fn twenty_thousand_books() {
                     *verdicts.entry((spur, field(line, 4))).or_default() += 1;
                     large += u64::from(field(line, 3) == 99_999_999);
                 }
+                b"PNT" if line[27..35] == [b' '; 8] => tenths += 1,
+                b"PNT" => whole += 1,
                 _ => {}
             }
         }
     }
     println!("spur first  verdict  closed");
     verdicts.iter().for_each(|((spur, verdict), count)| println!("{spur:10} {verdict:8} {count:7}"));
-    println!("{large} with a T above 99,999,999\nrefusal  text lines");
-    (1..=53).for_each(|number| println!("{number:7} {:11}", refusals.get(&number).unwrap_or(&0)));
-    assert!(refusals.keys().copied().eq((1..=8).chain(21..=36).chain(41..=46).chain([53])), "{refusals:?}");
-    assert!((41..=46).chain([53]).all(|number| refusals[&number] >= 500), "too few: {refusals:?}");
+    println!("{large} with a T above 99,999,999, {whole} heights in whole mm, {tenths} in tenths\nrefusal  text lines");
+    (1..=57).for_each(|number| println!("{number:7} {:11}", refusals.get(&number).unwrap_or(&0)));
+    assert!(refusals.keys().copied().eq((1..=8).chain(21..=36).chain(41..=46).chain([53, 57])), "{refusals:?}");
+    assert!((41..=46).chain([53, 57]).all(|number| refusals[&number] >= 500), "too few: {refusals:?}");
     assert_eq!(verdicts.len(), 6, "each verdict of lines and of spurs: {verdicts:?}");
     assert!(large >= 10, "too few of a large T: {large}");
+    assert!(whole >= 10_000 && tenths >= 10_000, "too few of a print unit: {whole}, {tenths}");
 }
 
 #[test]

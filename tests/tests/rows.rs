@@ -1,9 +1,10 @@
 //! The tool that sets rows written by hand in the columns of a text book.
 use std::io::Write;
+use std::ops::RangeInclusive;
 use std::process::{Command, Output, Stdio};
 
 use level_tests::examples::{examples, path};
-use level_tests::text::{fields_of, number, FIELD};
+use level_tests::text::{fields_of, number, number_of_blanks, FIELD};
 use level_tests::write::{filled, heading, line};
 
 fn run(arguments: &[&str], rows: &[u8]) -> Output {
@@ -87,12 +88,17 @@ fn no_rows() {
     }
 }
 
-/// The tool's table of records, from its usage.
-fn records() -> Vec<(String, usize)> {
+/// The tool's table of records, from its usage: the tag, and how many numbers it may have.
+fn records() -> Vec<(String, RangeInclusive<usize>)> {
     let usage = words(run(&["-h"], b"").stdout);
     let last = usage.lines().last().expect("its last line").trim_end_matches('.');
     let (_, records) = last.split_once(": ").expect("the records");
-    records.split(", ").map(|one| one.split_once(' ').expect("a tag and a count")).map(|(tag, count)| (tag.to_string(), count.parse().expect("a count"))).collect()
+    let counts = |words: &str| {
+        let (fewest, most) = words.split_once(" or ").unwrap_or((words, words));
+        let count = |one: &str| one.parse::<usize>().expect("a count");
+        count(fewest)..=count(most)
+    };
+    records.split(", ").map(|one| one.split_once(' ').expect("a tag and a count")).map(|(tag, words)| (tag.to_string(), counts(words))).collect()
 }
 
 /// The refusal of line 2 of a book, if it has one.
@@ -102,25 +108,28 @@ fn refusal_of_line_2(book: &[u8]) -> Option<i64> {
     number(&line[11..19])
 }
 
-/// The tool knows the records that the other implementation knows, and how many numbers each has.
+/// The tool knows the records that the other implementation knows, how many numbers each has, and how many of them no blanks stand for.
 #[test]
 fn the_records() {
     let records = records();
     for tag in (0..26 * 26 * 26).map(|k| [k / 676, k / 26 % 26, k % 26].map(|letter| b'A' + letter as u8)) {
-        let count = records.iter().find(|one| one.0.as_bytes() == tag).map(|one| one.1);
-        assert_eq!(count, fields_of(&tag), "{}", String::from_utf8_lossy(&tag));
+        let counts = records.iter().find(|one| one.0.as_bytes() == tag).map(|one| one.1.clone());
+        let needed = |fields: usize| (0..fields).filter(|&field| number_of_blanks(&tag, field).is_none()).count();
+        assert_eq!(counts, fields_of(&tag).map(|fields| needed(fields)..=fields), "{}", String::from_utf8_lossy(&tag));
     }
 }
 
 /// What the tool takes, the proved book does not refuse with 1 or 2; what has a number too few or too many, neither takes.
 #[test]
 fn how_many_numbers() {
-    for (tag, count) in records() {
+    for (tag, counts) in records() {
         let row = |many| format!("{tag}{}\n", " 4".repeat(many));
-        assert!(!matches!(refusal_of_line_2(book(&row(count)).as_bytes()), Some(1 | 2)), "{tag}");
-        for many in [count.wrapping_sub(1), count + 1].into_iter().filter(|&many| many <= 11) {
+        let (fewest, most) = (*counts.start(), *counts.end());
+        assert!(counts.into_iter().all(|count| !matches!(refusal_of_line_2(book(&row(count)).as_bytes()), Some(1 | 2))), "{tag}");
+        let needs = if fewest == most { most.to_string() } else { format!("{fewest} or {most}") };
+        for many in [fewest.wrapping_sub(1), most + 1].into_iter().filter(|&many| many <= 11) {
             let s = if many == 1 { "" } else { "s" };
-            assert_eq!(refused(&row(many)), format!("rows: row 1: {tag} has {many} number{s}, needs {count}\n"));
+            assert_eq!(refused(&row(many)), format!("rows: row 1: {tag} has {many} number{s}, needs {needs}\n"));
             // eleven have no room in a line
             let text = [heading(), line(&tag, &vec![4; many.min(10)]).expect("small numbers")].concat();
             assert!(many > 10 || matches!(refusal_of_line_2(&text), Some(1 | 2)), "{tag}");

@@ -106,7 +106,7 @@ fn verdicts() {
 /// Order 4 alone; what the input alone causes comes before what the book's state causes.
 #[test]
 fn opening_a_spur() {
-    let open = |order, instrument, start, height| Call::OpenSpur(Opened { order, instrument, start, height });
+    let open = |order, instrument, start, height| Call::OpenSpur(Opened { order, instrument, start, height, prints: 1 });
     let refused = [
         (open(3, 3, 1, 0), 3),
         (open(5, 3, 1, 0), 3),

@@ -46,10 +46,13 @@ fn numbers_as_written() {
 #[test]
 fn every_tag_gives_its_call() {
     let station = [4787, 1571, 1197, 1384, 6171, 4687, 739, 363, 551, 5239];
-    let opened = Opened { order: 4, instrument: 3, start: 1, height: 10_000 };
+    let opened = |prints| Opened { order: 4, instrument: 3, start: 1, height: 10_000, prints };
     let calls = [
-        (line("LIN", &[4, 3, 1, 10_000]), Call::Open(opened)),
-        (line("SPR", &[4, 3, 1, 10_000]), Call::OpenSpur(opened)),
+        (line("LIN", &[4, 3, 1, 10_000, 1]), Call::Open(opened(1))),
+        (line("LIN", &[4, 3, 1, 10_000, -7]), Call::Open(opened(-7))),
+        (line("LIN", &[4, 3, 1, 10_000]), Call::Open(opened(10))),
+        (line("SPR", &[4, 3, 1, 10_000, 1]), Call::OpenSpur(opened(1))),
+        (line("SPR", &[4, 3, 1, 10_000]), Call::OpenSpur(opened(10))),
         (
             line("STA", &station),
             Call::Station {
@@ -74,7 +77,7 @@ fn every_tag_gives_its_call() {
 
 #[test]
 fn one_comes_before_two() {
-    let cases: [(&str, u8); 29] = [
+    let cases: [(&str, u8); 39] = [
         ("RUN        ", 2),
         ("RUN       x", 2),
         ("RUN       xx", 1),
@@ -86,9 +89,19 @@ fn one_comes_before_two() {
         ("LEVEL BOOK", 1),
         ("", 1),
         ("END       3", 2),
-        ("LIN       4       3       1   10000       0", 1),
-        ("SPR       4       3       1   10000       0", 1),
+        ("LIN       4       3       1   10000       x", 2),
+        ("LIN       4       3       1   10000      01", 2),
+        ("LIN       4       3       1   10000      -0", 2),
+        ("LIN       4       3       1   10000 1      ", 2),
+        ("LIN       4       3       1   10000       1x", 1),
+        ("LIN       4       3       1   10000               1", 1),
+        ("LIN       4       3       1   10000       x       1", 1),
+        ("LIN       4       3       1              10", 2),
+        ("LIN               3       1   10000       1", 2),
+        ("SPR       4       3       1   10000       x", 2),
+        ("SPR       4       3       1   10000      10       0", 1),
         ("SPR       4       3       1", 2),
+        ("SPR", 2),
         ("FIN       3       0", 1),
         ("FIN", 2),
         ("fin       3", 1),
@@ -145,23 +158,20 @@ fn a_text_gives_the_calls_it_was_made_from() {
     }
 }
 
-/// No text book is long enough to lead there.
+/// No text book is long enough to lead below −9,999,999 mm.
 #[test]
-fn a_low_height_takes_sixteen_columns() {
+fn low_heights_and_tenths_take_sixteen_columns() {
     let point = |height| Point { number: 12, distance: 340, correction: -5, height };
-    let points = [-9_999_999, -10_000_000, -39_000_000, 47_000_000].map(point).to_vec();
-    let closing = Closing { w: 1, l: 340, n: 3, t: 0, verdict: 0, points };
-    let expected = [
-        "REDUCED LEVELS",
-        "REF       7      36",
-        "CLO       1     340       3       0       0",
-        "PNT      12     340      -5-9999999",
-        "PNT      12     340      -5       -10000000",
-        "PNT      12     340      -5       -39000000",
-        "PNT      12     340      -547000000",
-    ];
-    let expected: Vec<u8> = expected.iter().flat_map(|one| filled(one)).collect();
-    assert_eq!(report(&[(7, 36)], 3, Some(&closing)), expected);
+    for (prints, printed) in [
+        (1, ["-9999999", "       -10000000", "       -39000000", "47000000"]),
+        (10, ["        -9999999", "       -10000000", "       -39000000", "        47000000"]),
+    ] {
+        let points = [-9_999_999, -10_000_000, -39_000_000, 47_000_000].map(point).to_vec();
+        let closing = Closing { w: 1, l: 340, n: 3, t: 0, verdict: 0, prints, points };
+        let head = ["REDUCED LEVELS", "REF       7      36", "CLO       1     340       3       0       0"].map(filled);
+        let points = printed.map(|height| filled(&format!("PNT      12     340      -5{height}")));
+        assert_eq!(report(&[(7, 36)], 3, Some(&closing)), [head.concat(), points.concat()].concat());
+    }
 }
 
 /// A spur of short sections leads there (short_sections.rs), a third-order line does not.
@@ -169,7 +179,7 @@ fn a_low_height_takes_sixteen_columns() {
 fn a_large_t_is_printed_as_eight_nines() {
     let points = vec![Point { number: 12, distance: 0, correction: 0, height: 5 }];
     for (t, printed) in [(0, "       0"), (99_999_998, "99999998"), (99_999_999, "99999999"), (100_000_000, "99999999"), (i64::MAX, "99999999")] {
-        let closing = Closing { w: 0, l: 76_800_000, n: 64, t, verdict: 2, points: points.clone() };
+        let closing = Closing { w: 0, l: 76_800_000, n: 64, t, verdict: 2, prints: 1, points: points.clone() };
         let clo = format!("CLO       076800000      64{printed}       2");
         let expected = ["REDUCED LEVELS", &clo, "PNT      12       0       0       5"].map(filled).concat();
         assert_eq!(report(&[], 64, Some(&closing)), expected);
