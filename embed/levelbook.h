@@ -22,6 +22,10 @@ extern "C" {
 #define LEVEL_CALL_NUMBERS 11u
 #define LEVEL_FIGURES 270u
 
+/* The print unit: how many units of a printed height a millimetre has. */
+#define LEVEL_MILLIMETRES 1
+#define LEVEL_TENTHS 10
+
 /* What a refusal number means, in UTF-8; NULL for a number that there is not. */
 static inline const char *level_refusal(uint8_t number)
 {
@@ -47,17 +51,18 @@ struct level_leg {
     int64_t distance;
 };
 
-/* The adjusted heights (mm) between two known heights (mm), one a section, into the first places of `heights`; further places keep their values.
- * Refused, in this order, with 11 for no or more than 64 sections, 13 for a height list shorter than the sections, 12 for an R outside 1 to
- * 1,200,000 or a Q outside +-2,500,000, 5 for a known height outside -999,999 to 8,999,999; then `heights` is untouched. Library adjust. */
-uint8_t level_adjust(const struct level_leg *legs, size_t count, int64_t start, int64_t end, int64_t *heights, size_t places);
+/* The adjusted heights, in the print unit `prints`, between two known heights (mm), one a section, into the first places of `heights`; further places
+ * keep their values. Refused, in this order, with 11 for no or more than 64 sections, 13 for a height list shorter than the sections, 12 for an R
+ * outside 1 to 1,200,000 or a Q outside +-2,500,000, 5 for a known height outside -999,999 to 8,999,999, 57 for another print unit; then `heights` is
+ * untouched. Library adjust. */
+uint8_t level_adjust(const struct level_leg *legs, size_t count, int64_t start, int64_t end, int64_t prints, int64_t *heights, size_t places);
 
 /* A list of entries on a fresh book, LEVEL_CALL_NUMBERS numbers an entry. An entry's first number is its kind, the others are its call's arguments, and
  * those that the call does not have are not looked at:
- *   1 open: order, instrument, start number, start height     5 drop section
- *   2 station: K, u, l, m, r of the back staff, then fore     6 close line: number, height
- *   3 end run: number                                         7 open spur: as 1, order 4 alone
- *   4 drop run                                                8 close spur: number
+ *   1 open: order, instrument, start number and height, print unit     5 drop section
+ *   2 station: K, u, l, m, r of the back staff, then fore              6 close line: number, height
+ *   3 end run: number                                                  7 open spur: as 1, order 4 alone
+ *   4 drop run                                                         8 close spur: number
  *   9 collimation: A1, B1, A2, B2 (sums of four readings), D1, D2 (distances), in mm
  *   10 constants, directly after 1 or 7: the measured ones of the staff 4,687, then of the staff 4,787, in tenths of a mm
  *   11 lift section: the last finished one
@@ -65,8 +70,8 @@ uint8_t level_adjust(const struct level_leg *legs, size_t count, int64_t start, 
  * at, and the book stays as it is. The answer is how many entries there are. Each entry's number goes into its place of `numbers`, the figures of the
  * book that is left into `figures`, both as far as there are places. There are LEVEL_FIGURES figures: W, L, n, T and verdict, 0 while the line is not
  * closed; of the present run its stations, the sums of twice-heights, of sights and of d; the finished sections; then number, S, correction and height
- * of the start and each section, 0 where there is none. W and corrections are in quarter mm, the sum of twice-heights in half mm; after a 10 that was
- * taken each is in units one tenth as large. Library runner. */
+ * of the start and each section, 0 where there is none. Heights are in the print unit, W and corrections in quarters of it, the sum of twice-heights in
+ * half mm; after a 10 that was taken each but the heights is in units one tenth as large. Library runner. */
 size_t level_run(const int64_t *calls, size_t count, uint8_t *numbers, size_t answers, int64_t *figures, size_t places);
 
 /* The whole number nearest to n / d, a tie going to the even one. A d outside 1 to 4 * 10^18 stands for the nearest one inside. Library rootcalls. */

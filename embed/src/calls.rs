@@ -12,11 +12,20 @@ pub struct Staff {
     pub red: i64,
 }
 
+/// In what heights are printed. The number is how many of it a millimetre has. Corrections and the closure W follow: they are in a quarter of it.
+#[derive(Clone, Copy, Debug, PartialEq, Eq)]
+#[repr(i64)]
+pub enum PrintUnit {
+    Millimetre = 1,
+    Tenth = 10,
+}
+
 /// A call of the book. Any number may be given: what the rules do not allow is refused.
 #[derive(Clone, Copy, Debug, PartialEq, Eq)]
 pub enum Call {
-    /// Opens the line: order 3 or 4, instrument 3 (DS3) or 1 (DS1, DS05), the start benchmark and its height in mm.
-    Open { order: i64, instrument: i64, start: i64, height: i64 },
+    /// Opens the line: order 3 or 4, instrument 3 (DS3) or 1 (DS1, DS05), the start benchmark and its height in mm, and the unit of the heights that the
+    /// closing gives.
+    Open { order: i64, instrument: i64, start: i64, height: i64, prints: PrintUnit },
     Station { back: Staff, fore: Staff },
     /// Ends the run on a benchmark.
     EndRun { number: i64 },
@@ -25,7 +34,7 @@ pub enum Call {
     /// Closes the line on its last benchmark, whose known height is in mm.
     CloseLine { number: i64, height: i64 },
     /// Opens a spur, which is levelled out and back: as `Open`, but order 4 alone.
-    OpenSpur { order: i64, instrument: i64, start: i64, height: i64 },
+    OpenSpur { order: i64, instrument: i64, start: i64, height: i64, prints: PrintUnit },
     /// Closes the spur on its last benchmark.
     CloseSpur { number: i64 },
     /// Tests the level before the first station (source document 000, B13, method I1-A-B-I2), all in mm: the sums A1, B1, A2, B2 of four readings each
@@ -44,7 +53,7 @@ impl Call {
     /// The numbers of the call: its kind, its arguments, and zeros.
     pub fn numbers(&self) -> [i64; CALL_NUMBERS] {
         match *self {
-            Call::Open { order, instrument, start, height } => [1, order, instrument, start, height, 0, 0, 0, 0, 0, 0],
+            Call::Open { order, instrument, start, height, prints } => [1, order, instrument, start, height, prints as i64, 0, 0, 0, 0, 0],
             Call::Station { back: b, fore: f } => {
                 [2, b.constant, b.upper, b.lower, b.black, b.red, f.constant, f.upper, f.lower, f.black, f.red]
             }
@@ -52,7 +61,7 @@ impl Call {
             Call::DropRun => [4, 0, 0, 0, 0, 0, 0, 0, 0, 0, 0],
             Call::DropSection => [5, 0, 0, 0, 0, 0, 0, 0, 0, 0, 0],
             Call::CloseLine { number, height } => [6, number, height, 0, 0, 0, 0, 0, 0, 0, 0],
-            Call::OpenSpur { order, instrument, start, height } => [7, order, instrument, start, height, 0, 0, 0, 0, 0, 0],
+            Call::OpenSpur { order, instrument, start, height, prints } => [7, order, instrument, start, height, prints as i64, 0, 0, 0, 0, 0],
             Call::CloseSpur { number } => [8, number, 0, 0, 0, 0, 0, 0, 0, 0, 0],
             Call::Collimation { readings: [a1, b1, a2, b2], distances: [d1, d2] } => [9, a1, b1, a2, b2, d1, d2, 0, 0, 0, 0],
             Call::Constants { staff_4687, staff_4787 } => [10, staff_4687, staff_4787, 0, 0, 0, 0, 0, 0, 0, 0],
@@ -67,16 +76,16 @@ pub struct Point {
     pub number: i64,
     /// From the start, in half dm.
     pub distance: i64,
-    /// Of the section that ends here, in quarter mm; with measured constants in a tenth of that.
+    /// Of the section that ends here, in quarter mm; with measured constants in a tenth of that, and in tenths in a tenth of either.
     pub correction: i64,
-    /// In mm.
+    /// In the print unit that was opened.
     pub height: i64,
 }
 
 /// The figures of a closed line.
 #[derive(Clone, Debug, PartialEq, Eq)]
 pub struct Closing {
-    /// W, in quarter mm, with measured constants in a tenth of that; 0 on a spur, which has no known end height.
+    /// W, in the unit of the corrections; 0 on a spur, which has no known end height.
     pub closure: i64,
     /// L, in half dm.
     pub length: i64,
@@ -116,13 +125,14 @@ pub struct Outcome {
 /// A list of calls on a fresh book.
 ///
 /// ```
-/// use levelbook::{meaning, run_calls, Call, Staff};
+/// use levelbook::{meaning, run_calls, Call, PrintUnit, Staff};
 ///
 /// let staff = |constant, [upper, lower, black, red]: [i64; 4]| Staff { constant, upper, lower, black, red };
 /// let first = Call::Station { back: staff(4787, [1571, 1197, 1384, 6171]), fore: staff(4687, [739, 363, 551, 5239]) };
 /// let second = Call::Station { back: staff(4687, [1965, 1700, 1832, 6519]), fore: staff(4787, [2141, 1874, 2007, 6793]) };
-/// let outcome = run_calls(&[
-///     Call::Open { order: 4, instrument: 3, start: 1, height: 10_000 },
+/// let open = |prints| Call::Open { order: 4, instrument: 3, start: 1, height: 10_000, prints };
+/// let mut calls = [
+///     open(PrintUnit::Tenth),
 ///     first,
 ///     Call::Collimation { readings: [5937, 5951, 6043, 6067], distances: [6800, 40_300] },
 ///     first,
@@ -130,23 +140,27 @@ pub struct Outcome {
 ///     second,
 ///     Call::EndRun { number: 2 },
 ///     Call::CloseLine { number: 2, height: 10_657 },
-/// ]);
+/// ];
+/// let outcome = run_calls(&calls);
 /// assert_eq!(outcome.numbers, [0, 46, 0, 0, 23, 0, 0, 0]);
 /// assert!(meaning(46).unwrap().starts_with("station before"));
 /// assert!(meaning(23).unwrap().starts_with("staff out of turn"));
 /// let closing = outcome.closing.unwrap();
+/// assert_eq!((closing.closure, closing.length, closing.points[1].height), (40, 2_564, 106_570));
+/// calls[0] = open(PrintUnit::Millimetre);
+/// let closing = run_calls(&calls).closing.unwrap();
 /// assert_eq!((closing.closure, closing.length, closing.points[1].height), (4, 2_564, 10_657));
 /// ```
 ///
 /// The same stations on a spur, which is levelled back as well and has no known end height:
 ///
 /// ```
-/// # use levelbook::{run_calls, Call, Staff};
+/// # use levelbook::{run_calls, Call, PrintUnit, Staff};
 /// # let staff = |constant, [upper, lower, black, red]: [i64; 4]| Staff { constant, upper, lower, black, red };
 /// # let first = Call::Station { back: staff(4787, [1571, 1197, 1384, 6171]), fore: staff(4687, [739, 363, 551, 5239]) };
 /// # let second = Call::Station { back: staff(4687, [1965, 1700, 1832, 6519]), fore: staff(4787, [2141, 1874, 2007, 6793]) };
 /// let outcome = run_calls(&[
-///     Call::OpenSpur { order: 4, instrument: 3, start: 1, height: 10_000 },
+///     Call::OpenSpur { order: 4, instrument: 3, start: 1, height: 10_000, prints: PrintUnit::Tenth },
 ///     Call::Collimation { readings: [5937, 5951, 6043, 6067], distances: [6800, 40_300] },
 ///     first,
 ///     second,
@@ -160,20 +174,20 @@ pub struct Outcome {
 /// assert_eq!(outcome.numbers, [0, 0, 0, 0, 0, 0, 0, 0, 41, 0]);
 /// let closing = outcome.closing.unwrap();
 /// assert_eq!((closing.closure, closing.length, closing.accidental), (0, 2_564, 195));
-/// assert_eq!((closing.points[1].correction, closing.points[1].height), (-1, 10_658));
+/// assert_eq!((closing.points[1].correction, closing.points[1].height), (-2, 106_582));
 /// ```
 ///
 /// The first ones again with measured constants: the first station's height has a tenth of half a millimetre in its last place, and in the run, whose two
 /// stations have the staffs in turn, the constants cancel:
 ///
 /// ```
-/// # use levelbook::{run_calls, Call, Staff};
+/// # use levelbook::{run_calls, Call, PrintUnit, Staff};
 /// # let staff = |constant, [upper, lower, black, red]: [i64; 4]| Staff { constant, upper, lower, black, red };
 /// # let first = Call::Station { back: staff(4787, [1571, 1197, 1384, 6171]), fore: staff(4687, [739, 363, 551, 5239]) };
 /// # let second = Call::Station { back: staff(4687, [1965, 1700, 1832, 6519]), fore: staff(4787, [2141, 1874, 2007, 6793]) };
 /// let constants = Call::Constants { staff_4687: 46_873, staff_4787: 47_866 };
 /// let mut calls = vec![
-///     Call::Open { order: 4, instrument: 3, start: 1, height: 10_000 },
+///     Call::Open { order: 4, instrument: 3, start: 1, height: 10_000, prints: PrintUnit::Tenth },
 ///     constants,
 ///     Call::Collimation { readings: [5937, 5951, 6043, 6067], distances: [6800, 40_300] },
 ///     first,
@@ -183,17 +197,18 @@ pub struct Outcome {
 /// assert_eq!((&outcome.numbers[..], outcome.run.twice_height), (&[0, 0, 0, 0, 43][..], 16_657));
 /// calls.extend([second, Call::EndRun { number: 2 }, Call::CloseLine { number: 2, height: 10_657 }]);
 /// let closing = run_calls(&calls).closing.unwrap();
-/// assert_eq!((closing.closure, closing.points[1].correction, closing.points[1].height), (40, -40, 10_657));
+/// assert_eq!((closing.closure, closing.points[1].correction, closing.points[1].height), (400, -400, 106_570));
 /// ```
 ///
 /// A section whose mark was destroyed is lifted and levelled anew, here on the same number; nothing of the lifted one is left:
 ///
 /// ```
-/// # use levelbook::{run_calls, Call, Staff};
+/// # use levelbook::{run_calls, Call, PrintUnit, Staff};
 /// # let staff = |constant, [upper, lower, black, red]: [i64; 4]| Staff { constant, upper, lower, black, red };
 /// # let first = Call::Station { back: staff(4787, [1571, 1197, 1384, 6171]), fore: staff(4687, [739, 363, 551, 5239]) };
 /// # let second = Call::Station { back: staff(4687, [1965, 1700, 1832, 6519]), fore: staff(4787, [2141, 1874, 2007, 6793]) };
-/// let opened = [Call::Open { order: 4, instrument: 3, start: 1, height: 10_000 }, Call::Collimation { readings: [5937, 5951, 6043, 6067], distances: [6800, 40_300] }];
+/// let open = Call::Open { order: 4, instrument: 3, start: 1, height: 10_000, prints: PrintUnit::Tenth };
+/// let opened = [open, Call::Collimation { readings: [5937, 5951, 6043, 6067], distances: [6800, 40_300] }];
 /// let section = [first, second, Call::EndRun { number: 2 }];
 /// let outcome = run_calls(&[&opened[..], &section, &[Call::LiftSection, Call::LiftSection], &section, &[Call::CloseLine { number: 2, height: 10_657 }]].concat());
 /// assert_eq!(outcome.numbers, [0, 0, 0, 0, 0, 0, 53, 0, 0, 0, 0]);

@@ -15,8 +15,15 @@
 //!     "RUN       2",
 //!     "END       2   10657",
 //! ];
-//! let text: String = rows.iter().map(|row| format!("{row:<83}\n")).collect();
-//! let report = levelbook::reduce(text.as_bytes())?;
+//! let text = |rows: &[&str]| rows.iter().map(|row| format!("{row:<83}\n")).collect::<String>();
+//! let report = levelbook::reduce(text(&rows).as_bytes())?;
+//! let lines: Vec<&str> = std::str::from_utf8(&report)?.lines().map(str::trim_end).collect();
+//! assert_eq!(lines[1], "CLO      40    2564       1       0       0");
+//! assert_eq!(lines[3], "PNT       2    2564     -40          106570");
+//!
+//! // heights in tenths of a millimetre; in whole ones, where LIN has a 1 behind the start height
+//! let whole = [&rows[..1], &["LIN       4       3       1   10000       1"], &rows[2..]].concat();
+//! let report = levelbook::reduce(text(&whole).as_bytes())?;
 //! let lines: Vec<&str> = std::str::from_utf8(&report)?.lines().map(str::trim_end).collect();
 //! assert_eq!(lines[1], "CLO       4    2564       1       0       0");
 //! assert_eq!(lines[3], "PNT       2    2564      -4   10657");
@@ -27,7 +34,7 @@ mod calls;
 pub mod raw;
 mod refusal;
 
-pub use calls::{run_calls, Call, Closing, Outcome, Point, Run, Staff};
+pub use calls::{run_calls, Call, Closing, Outcome, Point, PrintUnit, Run, Staff};
 pub use raw::Leg;
 pub use refusal::{meaning, Refusal};
 
@@ -78,26 +85,28 @@ pub fn reduce_into(text: &[u8], report: &mut [u8]) -> Result<usize, Refusal> {
     Refusal::check(number).map(|()| written)
 }
 
-/// The adjustment by itself: from the known heights (mm) at both ends of a line and the Q and R of its sections to one height (mm) a section, into
-/// the beginning of `heights`, whose further places keep their values. Closure and length limits are not tested.
+/// The adjustment by itself: from the known heights (mm) at both ends of a line and the Q and R of its sections to one height (in the print unit) a
+/// section, into the beginning of `heights`, whose further places keep their values. Closure and length limits are not tested.
 ///
 /// ```
-/// use levelbook::{adjust, Leg, Refusal};
+/// use levelbook::{adjust, Leg, PrintUnit, Refusal};
 ///
 /// let sections = [Leg { height: 2_632, distance: 2_564 }, Leg { height: 2_200, distance: 1_600 }];
 /// let mut heights = [0; 2];
-/// adjust(10_000, 11_206, &sections, &mut heights)?;
+/// adjust(10_000, 11_206, PrintUnit::Tenth, &sections, &mut heights)?;
+/// assert_eq!(heights, [106_568, 112_060]);
+/// adjust(10_000, 11_206, PrintUnit::Millimetre, &sections, &mut heights)?;
 /// assert_eq!(heights, [10_657, 11_206]);
-/// assert_eq!(adjust(10_000, 11_206, &sections, &mut heights[..1]), Err(Refusal::ListTooShort));
+/// assert_eq!(adjust(10_000, 11_206, PrintUnit::Tenth, &sections, &mut heights[..1]), Err(Refusal::ListTooShort));
 /// # Ok::<(), Refusal>(())
 /// ```
 ///
 /// # Errors
 ///
 /// In this order, and the list is untouched then: [`Refusal::Sections`], [`Refusal::ListTooShort`], [`Refusal::Section`], [`Refusal::Height`].
-pub fn adjust(start: i64, end: i64, sections: &[Leg], heights: &mut [i64]) -> Result<(), Refusal> {
+pub fn adjust(start: i64, end: i64, prints: PrintUnit, sections: &[Leg], heights: &mut [i64]) -> Result<(), Refusal> {
     // SAFETY: slices of every length are taken, each as a pointer and a length; the one is read and the other written within its length.
-    Refusal::check(unsafe { raw::level_adjust(sections.as_ptr(), sections.len(), start, end, heights.as_mut_ptr(), heights.len()) })
+    Refusal::check(unsafe { raw::level_adjust(sections.as_ptr(), sections.len(), start, end, prints as i64, heights.as_mut_ptr(), heights.len()) })
 }
 
 /// A list of entries on a fresh book, [`CALL_NUMBERS`] numbers an entry; gives how many entries there are. [`run_calls`] has the same with types. Each
@@ -105,19 +114,21 @@ pub fn adjust(start: i64, end: i64, sections: &[Leg], heights: &mut [i64]) -> Re
 /// as there are places: where `numbers` is shorter than the answer, the numbers of the last entries are missing.
 ///
 /// An entry's first number is its kind, the others are its call's arguments, and those that the call does not have are not looked at: 1 open (order,
-/// instrument, start number, start height), 2 station (K, u, l, m, r back, then fore), 3 end run (number), 4 drop run, 5 drop section, 6 close line
-/// (number, height), 7 open spur (as 1, order 4 alone), 8 close spur (number), 9 collimation (A1, B1, A2, B2, D1, D2), 10 constants (of the staff 4,687,
-/// then of the staff 4,787, in tenths of a mm; directly after 1 or 7), 11 lift section (the last finished one). An entry of any other kind is refused with
-/// 1, and so is a rest of 1 to 10 numbers at the end, which is one entry more; nothing else of them is looked at, and the book stays as it is.
+/// instrument, start number, start height, print unit: 1 for whole mm, 10 for tenths), 2 station (K, u, l, m, r back, then fore), 3 end run (number),
+/// 4 drop run, 5 drop section, 6 close line (number, height), 7 open spur (as 1, order 4 alone), 8 close spur (number), 9 collimation (A1, B1, A2, B2, D1,
+/// D2), 10 constants (of the staff 4,687, then of the staff 4,787, in tenths of a mm; directly after 1 or 7), 11 lift section (the last finished one). An
+/// entry of any other kind is refused with 1, and so is a rest of 1 to 10 numbers at the end, which is one entry more; nothing else of them is looked at,
+/// and the book stays as it is.
 ///
 /// The figures are W, L, n, T and verdict, each 0 while the line is not closed; of the present run its stations, the sum of twice-heights, of sights
 /// and of d; the finished sections; then number, S, correction and height of the start and each section, 0 where there is none: [`FIGURES`] numbers.
-/// W and corrections are in quarter mm, the sum of twice-heights in half mm; after a 10 that was taken each is in units one tenth as large.
+/// Heights are in the print unit, W and corrections in quarters of it, the sum of twice-heights in half mm; after a 10 that was taken each but the heights
+/// is in units one tenth as large.
 ///
 /// ```
 /// use levelbook::FIGURES;
 ///
-/// let open = [1, 4, 3, 1, 10_000, 0, 0, 0, 0, 0, 0];
+/// let open = [1, 4, 3, 1, 10_000, 10, 0, 0, 0, 0, 0];
 /// let collimation = [9, 5937, 5951, 6043, 6067, 6800, 40_300, 0, 0, 0, 0];
 /// let station = [2, 4787, 1571, 1197, 1384, 6171, 4687, 739, 363, 551, 5239];
 /// let (mut numbers, mut figures) = ([99; 4], [0; FIGURES]);
