@@ -8,7 +8,7 @@ use level_tests::generate::{line, Kind};
 use level_tests::largest::{after_heading, blank_lines, largest_book, refused_late, sixty_four_sections};
 use level_tests::mutate::any_call;
 use level_tests::opening::{opening, usual, MEASURED, TABLE_B7};
-use level_tests::plain::Call;
+use level_tests::plain::{Call, Opened};
 use level_tests::random::Random;
 use level_tests::rules::Class;
 use level_tests::text::{number, LINE, LONGEST_TEXT};
@@ -115,7 +115,8 @@ fn sixty_four_sections_in_a_text() {
 #[test]
 fn the_largest_text() {
     let [order_5, ang, kon] = [Call::Open(usual(5)), Call::Collimation(TABLE_B7), Call::Constants(MEASURED)].map(|call| line_of(&call).unwrap());
-    for (line, refusal) in [(filled(""), 1), (filled("RUN"), 2), (order_5, 3), (filled("DRR"), 21), (filled("LFT"), 21), (filled("FIN       1"), 21), (ang, 21), (kon, 43)] {
+    let hundredths = line_of(&Call::Open(Opened { prints: 100, ..usual(4) })).unwrap();
+    for (line, refusal) in [(filled(""), 1), (filled("RUN"), 2), (order_5, 3), (hundredths, 57), (filled("DRR"), 21), (filled("LFT"), 21), (filled("FIN       1"), 21), (ang, 21), (kon, 43)] {
         let text = after_heading(&line);
         assert_eq!(text.len(), LONGEST_TEXT);
         let report = report(&text).unwrap();

@@ -250,7 +250,7 @@ fn the_fifth_field() {
     }
 }
 
-/// Every height in tenths takes sixteen columns, at both ends of what may be known.
+/// Every height in tenths takes sixteen columns, at both ends of what may be known and, on a spur, beyond them.
 #[test]
 fn sixteen_columns() {
     for (height, tenths, whole) in [(-999_999, "        -9999990", " -999999"), (8_999_999, "        89999990", " 8999999"), (0, "               0", "       0"), (-1, "             -10", "      -1")] {
@@ -263,6 +263,14 @@ fn sixteen_columns() {
                 &format!("PNT       2    5000       0{printed}"),
             ]);
             assert_eq!(report(&text_of(&calls)).map(|one| words(&one)), Ok(words(&expected)), "{height} {prints}");
+        }
+    }
+    // 2.5 mm down and up
+    for (height, q, tenths, whole) in [(-999_999, -10, "       0       -10000015", "      -2-1000002"), (8_999_999, 10, "       0        90000015", "       2 9000002")] {
+        for (prints, printed) in [(10, tenths), (1, whole)] {
+            let calls = [from(Class::Spur, height, prints), section(1, 2, q, 0), vec![Call::CloseSpur(2)]].concat();
+            let last = report(&text_of(&calls)).unwrap()[3 * 84..].to_vec();
+            assert_eq!(words(&last), words(&filled(&format!("PNT       2    5000{printed}"))), "{height} {prints}");
         }
     }
 }
