@@ -137,6 +137,18 @@ fn how_many_numbers() {
     }
 }
 
+/// The last number of LIN and SPR may be left out, and its field is blank then.
+#[test]
+fn the_print_unit() {
+    let opened = |tag: &str, field: &str| format!("{tag}       4       3       1   10000{field}");
+    for tag in ["LIN", "SPR"] {
+        for (number, field) in [("", ""), ("1", "       1"), ("10", "      10")] {
+            assert_eq!(book(&format!("{tag} 4 3 1 10000 {number}\n")), headed(&[&opened(tag, field)]));
+        }
+        assert_eq!(refused(&format!("{tag} 4 3 1 10000 0.1\n")), "rows: row 1: field 5: 0.1: a whole number, no point or comma\n");
+    }
+}
+
 /// Fields, and what is said of those that are no numbers of the book.
 const FIELDS: [(&str, &str); 20] = [
     ("0", ""),
