@@ -16,7 +16,9 @@ pub struct Staff {
 #[derive(Clone, Copy, Debug, PartialEq, Eq)]
 #[repr(i64)]
 pub enum PrintUnit {
+    /// Whole millimetres.
     Millimetre = 1,
+    /// Tenths of a millimetre, the usual print.
     Tenth = 10,
 }
 
