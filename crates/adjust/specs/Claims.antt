@@ -1,4 +1,5 @@
--- What is promised of the points of a line: between two known heights (demand 3 of document 01), in any units, and of a spur (document 02, W-202). The adjustment call's heights are those of such points (`adjusted_heights`).
+-- What is promised of the points of a line: between two known heights (demand 3 of document 01), in any units, and of a spur (document 02, W-202).
+-- The adjustment call's heights are those of such points (`adjusted_heights`).
 use Rattle.std.specs.Prelude.{◌≡◌, List, [], ◌∷◌, map, ℕ, ◌*◌, ◌≤◌, ℤ, pos, neg_ℤ, nat_abs, ◌+ℤ◌, ◌-ℤ◌, ◌*ℤ◌}
 use Rattle.numbers.specs.Numbers.{sum, last_of}
 use Rattle.roots.specs.Round.{round_even}

@@ -102,7 +102,8 @@ impl Sections {
     }
 }
 
-// A benchmark of the closed line: its distance from the start in half dm, the correction of the section before it in quarter mm, its height in mm. Both are in tenths of these where the print unit is.
+// A benchmark of the closed line: its distance from the start in half dm, the correction of the section before it in quarter mm, its height in mm. The last two are in
+// tenths of these where the print unit is.
 #[derive(Clone, Copy, Default, PartialEq, Eq)]
 pub struct Point {
     pub number: i64,
