@@ -188,7 +188,7 @@ fn figures_fit(opening: &Opening, end: i64, kept: &SectionSums, sections: &[Sect
 }
 
 // The units to a millimetre of Q and W: quarter mm, or tenths of these where the constants were measured.
-fn units_of(staffs: Staffs) -> i64
+pub fn units_of(staffs: Staffs) -> i64
     ensures { result ≡ units_of staffs }
 {
     QUARTERS * scale_of(staffs) as i64

@@ -116,6 +116,8 @@ pub enum Refusal {
     NotCollimated = 46,
     // a lift where no section stands, or a run is present or waiting
     LiftPlace = 53,
+    // a profile of a line that is not closed, or a buffer too short for its points
+    Profile = 56,
     // a print unit other than millimetres and tenths of them
     PrintUnit = 57,
 }

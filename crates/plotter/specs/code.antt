@@ -1,0 +1,2 @@
+-- What only contracts and proofs use: no other file of specs/ does.
+pub mod Reached
