@@ -1,26 +1,20 @@
 -- Whole numbers as floats: each up to 2 ^ 53 is a float, and the difference of two such floats is the float of the difference.
 use mathlib.Core.Path.{◌≡◌, refl, sym, ◌∙◌, ap, subst}
 use mathlib.Core.Bool.{Bool, true, false, not, ◌&&◌, beq, cond}
-use Prim.Native.Nat.{ℕ, zero, suc, ◌+◌, ◌-◌, ◌*◌, ◌^◌, ◌≤◌, ◌<◌, zero-le}
+use Prim.Native.Nat.{ℕ, zero, suc, ◌+◌, ◌-◌, ◌*◌, ◌≤◌, ◌<◌, zero-le}
 use native.Mathlib.Nat.{mul-one, mul_assoc, mul_comm, mul-sub, add-mul, mul-le-mul_right, mul-lt-mul_of_pos_right, mul-pos, zero-lt-suc}
 use native.Mathlib.Omega.{arith}
 use borrow.Author.Tests.{ltb-true, ltb-false, lt-ltb, le-ltb}
-use lib.Dec.{T, ltb, le→leb, lt→ltb}
+use lib.Dec.{T, ltb}
 use lib.IntN.{ℤ, pos, negsuc, nat_abs, ◌-ℤ◌}
-use lib.Ieee.{Float, nan, inf, fin, binary64, up, down, round, neg, sum, add, sub, of_int, in_float, is_nan}
+use lib.Ieee.{Float, nan, inf, fin, binary64, up, down, round, neg, sum, add, sub, of_int, is_nan}
 use lib.Ieee.Back.{round_whole}
 use lib.Ieee.Fits.{down_pos}
 use lib.Ieee.Scale.{round_same}
 use Rattle.plotter.specs.Floats.{below_zero, Equals, Exact, float_of}
 use Rattle.plotter.specs.Claims.{WholeExact, DifferenceExact}
 
--- the cast of z to a float loses nothing
-pub exact_in : (z : ℤ) → Exact z → T (in_float binary64 z)
-unfolding in_float
-exact_in (pos n) h = le→leb n (2 ^ 53) h
-exact_in (negsuc n) h = lt→ltb n (2 ^ 53) h
-
--- and what it gives equals z
+-- the float of z equals z
 pub whole_exact : WholeExact
 unfolding of_int
 whole_exact (pos n) h = round_whole binary64 false n h
