@@ -9,3 +9,4 @@ pub mod Again
 pub mod Traced
 pub mod Entries
 pub mod Cancel
+pub mod Exact
