@@ -114,6 +114,8 @@ pub enum Refusal {
     Collimation = 45,
     // a station before a collimation test was taken
     NotCollimated = 46,
+    // for warnings of drift: a window outside its range, or a line whose sections are levelled one way
+    DriftWindow = 51,
     // a lift where no section stands, or a run is present or waiting
     LiftPlace = 53,
     // a profile of a line that is not closed, or a buffer too short for its points

@@ -8,7 +8,7 @@ pub mod call;
 pub mod closing;
 pub mod opening;
 pub mod refusals;
-mod standing;
+pub mod standing;
 
 #[derive(Clone, Copy, PartialEq, Eq)]
 pub enum Stage {

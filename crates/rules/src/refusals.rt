@@ -156,7 +156,7 @@ pub fn check_lift(b: &Book) -> Result<Section, Refusal>
 // ---- end run
 
 // R as it counts for D: below 0.10 km as 0.10 km.
-fn counted_length(r: i64) -> i64
+pub fn counted_length(r: i64) -> i64
     ensures { result ≡ counted_length r }
 {
     r.max(2000)

@@ -8,9 +8,9 @@ use adjust::Section;
 use records::Refusal;
 
 #[derive(Clone, Copy)]
-pub(crate) struct Standing<'a> {
-    pub(crate) line: &'a Line,
-    pub(crate) sections: &'a [Section],
+pub struct Standing<'a> {
+    pub line: &'a Line,
+    pub sections: &'a [Section],
     ghost unbroken: { line_broken line.now (length sections.now) ≡ false },
 }
 
@@ -36,7 +36,7 @@ impl<'a> Standing<'a> {
     }
 
     // For a call that reads all sections: 20 also where one of them does not fit, or where the sums that are kept are not theirs.
-    pub(crate) fn of_read(b: &'a Book) -> Result<Self, Refusal>
+    pub fn of_read(b: &'a Book) -> Result<Self, Refusal>
         ensures number { number_of result ≡ cond (broken_in (all_broken (state_of b.now)) (state_of b.now)) 20 0 }
         ensures state { IfOk result (λ s. standing_of s ≡ state_of b.now) }
     {
