@@ -1,3 +1,4 @@
+pub mod Ascii
 pub mod Buffers
 pub mod Decimals
 pub mod Lines

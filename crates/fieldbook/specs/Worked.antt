@@ -1,24 +1,18 @@
 -- Case A of document 01, with the collimation test and the print unit of document 02, W-204 and W-214, in whole millimetres and in tenths, and its section 1 alone by measured constants
 -- (document 02, W-203), worked: the bytes of a text give the bytes of its report, both written out as they stand in a file.
-use Rattle.std.specs.Prelude.{◌≡◌, refl, List, ℕ, pos}
-use mathlib.Core.List as Lists
-use Prim.Native.Char.{code}
-use Prim.Native.String.{String, [], ◌∷◌, ◌++◌}
+use Rattle.std.specs.Prelude.{◌≡◌, refl, pos}
+use Prim.Native.String.{String, ◌++◌}
 use Rattle.numbers.specs.Numbers.{put_at}
 use Rattle.roots.specs.Round.{round_even}
 use Rattle.roots.specs.Limit.{is_within}
 use Rattle.collimation.specs.Collimation.{within_angle}
+use Rattle.columns.specs.Ascii.{bytes_of}
 use Rattle.columns.specs.Decimals.{blanks, digits_by, digits, decimal, fits_in, pad, same, value_of, has_minus, candidate, field_of}
 use Rattle.columns.specs.Lines.{line_end, line_with, width_of, fields, all_fit, columns_of, line_fits, tag_line, is_wide, heading, title}
 use Rattle.columns.specs.Records.{tag_among, all_numbers, numbers_in, lacks_print_unit, with_print_unit, numbers_line, record_in, line_in}
 use Rattle.columns.specs.Texts.{lines_by, lines, joined}
 use Rattle.textbook.specs.Text.{refusals_from}
 use Rattle.fieldbook.specs.Report.{report, shown_t}
-
--- the bytes of a text in ASCII
-abbrev pub bytes_of : String → List ℕ
-bytes_of [] = Lists.[]
-bytes_of (c ∷ s) = Lists.◌∷◌ (code c) (bytes_of s)
 
 abbrev pub book_a : String
 book_a =
