@@ -260,7 +260,7 @@ running_station v kb kf readings e =
     (or_l (not (is_open v.line.stage)) (is_shut v) (fails v (station kb kf readings) e 21))
 
 -- an open line with nothing in it
-begun_kept : (o : Opening) → nat_abs o.start.number ≤ 9999 → height_in_range o.start.height ≡ true → staffs_fit o.staffs ≡ true → Kept (record { line = begun o; sections = [] })
+pub begun_kept : (o : Opening) → nat_abs o.start.number ≤ 9999 → height_in_range o.start.height ≡ true → staffs_fit o.staffs ≡ true → Kept (record { line = begun o; sections = [] })
 begun_kept o number start staffs =
     record {
       few = omega arith;

@@ -8,7 +8,7 @@ use lib.Dec.{T, eqb, eqb→eq}
 use Rattle.std.specs.Prelude.{Ok, Err, IfOk}
 use Rattle.std.specs.declared.result.Result.{Result}
 use Rattle.records.specs.declared.Refusal.{Refusal}
-use Rattle.records.specs.declared.Refusal.TheVariants.{NotARecord, BadField, OrderOrInstrument, BenchmarkNumber, KnownHeight, Reading, Constants, ThreadOrder, TextTooLong, ReportRoom, SectionCount, SectionRange, HeightRoom, Broken, Stage, RunFull, StaffTurn, Sight, SightDifference, AccumulatedDifference, FaceDifference, HeightByFaces, StationCount, BenchmarkPlace, BookFull, Discrepancy, Unfinished, ClosingBenchmark, LineLength, Closure, ClosingKind, ConstantsRange, ConstantsPlace, CollimationRange, Collimation, NotCollimated, DriftWindow, LiftPlace, Profile, PrintUnit}
+use Rattle.records.specs.declared.Refusal.TheVariants.{NotARecord, BadField, OrderOrInstrument, BenchmarkNumber, KnownHeight, Reading, Constants, ThreadOrder, TextTooLong, ReportRoom, SectionCount, SectionRange, HeightRoom, Broken, Stage, RunFull, StaffTurn, Sight, SightDifference, AccumulatedDifference, FaceDifference, HeightByFaces, StationCount, BenchmarkPlace, BookFull, Discrepancy, Unfinished, ClosingBenchmark, LineLength, Closure, ClosingKind, ConstantsRange, ConstantsPlace, CollimationRange, Collimation, NotCollimated, DriftWindow, RepeatedRun, LiftPlace, Profile, PrintUnit}
 use Rattle.records.specs.Refusals.{refusal_number, number_of, NumbersApart, NoneIsZero}
 
 -- all refusals
@@ -51,6 +51,7 @@ every_refusal =
     ∷ Collimation
     ∷ NotCollimated
     ∷ DriftWindow
+    ∷ RepeatedRun
     ∷ LiftPlace
     ∷ Profile
     ∷ PrintUnit ∷ []
@@ -101,6 +102,7 @@ read_back CollimationRange = refl
 read_back Collimation = refl
 read_back NotCollimated = refl
 read_back DriftWindow = refl
+read_back RepeatedRun = refl
 read_back LiftPlace = refl
 read_back Profile = refl
 read_back PrintUnit = refl

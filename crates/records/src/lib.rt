@@ -116,6 +116,8 @@ pub enum Refusal {
     NotCollimated = 46,
     // for warnings of drift: a window outside its range, or a line whose sections are levelled one way
     DriftWindow = 51,
+    // a run shot again that cannot be judged: a line that is no station taken, no even number of stations, or figures of the opposite run outside their ranges
+    RepeatedRun = 52,
     // a lift where no section stands, or a run is present or waiting
     LiftPlace = 53,
     // a profile of a line that is not closed, or a buffer too short for its points

@@ -32,7 +32,7 @@ fn text_from(text: &[u8], number: usize) -> &[u8]
 }
 
 // A line of the text after the heading: its record, taken of the book in its place. Two lines as those that take an entry of a list of numbers, but for the parser.
-fn take_line(book: &mut Book, bytes: &[u8]) -> Result<(), Refusal>
+pub fn take_line(book: &mut Book, bytes: &[u8]) -> Result<(), Refusal>
     ensures number { number_of result ≡ entry_number book.old (line_entry bytes.now) }
     ensures book { book.new ≡ entry_book book.old (line_entry bytes.now) }
 {
