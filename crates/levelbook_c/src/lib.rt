@@ -2,4 +2,5 @@
 #![tactic(auto)]
 
 pub mod drift;
+pub mod judge;
 pub mod profile;
