@@ -10,8 +10,35 @@ use std::io::{ErrorKind, Write};
 use std::rt::Files;
 use std::{env, fs, io};
 
-fn missing() -> io::Error {
-    io::Error::from(ErrorKind::InvalidInput)
+// What the arguments ask for.
+#[derive(Drop)]
+struct Asked {
+    first: String,
+    second: String,
+    order: i64,
+    instrument: i64,
+    g: i64,
+    s: i64,
+}
+
+fn next_number(args: &mut Args) -> Option<i64> {
+    args.next()?.parse().ok()
+}
+
+// None where an argument is missing, is no number or is left over.
+fn asked_by(args: &mut Args) -> Option<Asked> {
+    let asked = Asked {
+        first: args.next()?,
+        second: args.next()?,
+        order: next_number(args)?,
+        instrument: next_number(args)?,
+        g: next_number(args)?,
+        s: next_number(args)?,
+    };
+    match args.next() {
+        None => Some(asked),
+        Some(_) => None,
+    }
 }
 
 // What is read of a file, into the buffer: how many bytes.
@@ -22,25 +49,26 @@ fn read_file<R: Files>(rt: &R, path: &str, buffer: &mut [u8]) -> io::Result<usiz
     read_input(&mut file, buffer)
 }
 
-fn next_number(args: &mut Args) -> io::Result<i64> {
-    let word = args.next().ok_or(missing())?;
-    word.parse().ok().ok_or(missing())
-}
-
-fn run<R: Files + Env + AllocGlobal, W: Write>(rt: &R, sink: &mut W) -> io::Result<()> {
+fn run<R: Files + Env + Eprint + AllocGlobal, W: Write>(rt: &R, sink: &mut W) -> io::Result<()> {
     let mut args = env::args(rt)?;
     let _program = args.next();
-    let first = args.next().ok_or(missing())?;
-    let second = args.next().ok_or(missing())?;
-    let order = next_number(&mut args)?;
-    let instrument = next_number(&mut args)?;
-    let g = next_number(&mut args)?;
-    let s = next_number(&mut args)?;
+    let Some(asked) = asked_by(&mut args) else {
+        eprintln!(rt; "usage: judge OLD NEW ORDER INSTRUMENT G S")?;
+        return Err(io::Error::from(ErrorKind::InvalidInput));
+    };
     let mut old = input_buffer();
     let mut new = input_buffer();
-    let old_read = read_file(rt, &first, &mut old)?;
-    let new_read = read_file(rt, &second, &mut new)?;
-    sink.write_all(judgement_line(&old[..old_read], &new[..new_read], order, instrument, g, s))
+    let old_read = read_file(rt, &asked.first, &mut old)?;
+    let new_read = read_file(rt, &asked.second, &mut new)?;
+    let line = judgement_line(
+        &old[..old_read],
+        &new[..new_read],
+        asked.order,
+        asked.instrument,
+        asked.g,
+        asked.s,
+    );
+    sink.write_all(line)
 }
 
 fn main(rt: HostRuntime) -> io::Result<()> {
