@@ -9,7 +9,8 @@ use Rattle.columns.specs.Texts.{lines_by, lines, joined}
 use Rattle.roots.specs.Round.{round_even}
 use Rattle.roots.specs.Limit.{is_within}
 use Rattle.collimation.specs.Collimation.{within_angle}
-use Rattle.fieldbook.specs.Worked.{bytes_of, book_a, book_measured}
+use Rattle.columns.specs.Ascii.{bytes_of}
+use Rattle.fieldbook.specs.Worked.{book_a, book_measured}
 use Rattle.plotter.specs.Floats.{float_of, float_bytes}
 use Rattle.plotter.specs.Profile.{profile}
 use Rattle.plotter.specs.Text.{text_profile, text_refusal}
