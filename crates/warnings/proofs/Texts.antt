@@ -33,7 +33,7 @@ use Rattle.textbook.specs.Text.{entries, reading_after}
 use Rattle.textbook.specs.code.State.{after_heading, unread, text_state}
 use Rattle.adjust.specs.Terms.{terms_by}
 use Rattle.warnings.specs.declared.Drift.{Drift}
-use Rattle.warnings.specs.Drift.{window_out, levelled_one_way, drift_refusal, firsts, drift_of}
+use Rattle.warnings.specs.Drift.{window_out, levelled_one_way, warning_tests, drift_refusal, firsts, drift_of}
 use Rattle.warnings.specs.Text.{read, text_line, text_refusal, text_firsts, list_after, drift_title, drift_line, printed_for, printed_of}
 use Rattle.warnings.specs.code.Listed.{numbers_small}
 use Rattle.warnings.proofs.Found.{few_firsts, small_firsts}
@@ -57,7 +57,7 @@ pub line_read : (text : List ℕ) {b : Book} → b ≡ (text_state (lines text))
 line_read text p = held (read (lines text)) (p ∙ book_read (lines text))
 
 -- the tests without 20
-pub number_kept : (v : LineState) (w : ℤ) → Kept v → drift_refusal v w ≡ first_of ((51, window_out w) ∷ (51, levelled_one_way v) ∷ [])
+pub number_kept : (v : LineState) (w : ℤ) → Kept v → drift_refusal v w ≡ first_of (warning_tests v w)
 number_kept v w k = λ i. cond (window_out w) 51 (cond (kept_unbroken v k (close_line (pos 0) (pos 0)) i) 20 (cond (levelled_one_way v) 51 0))
 
 -- ---- the number of a text
@@ -66,14 +66,14 @@ number_kept v w k = λ i. cond (window_out w) 51 (cond (kept_unbroken v k (close
 pub too_long_refused : (text : List ℕ) (w : ℤ) (x : Refusal) → refusal_number x ≡ cond (too_long text) 9 0 → refusal_number x ≡ text_refusal text w
 unfolding text_refusal
 too_long_refused text w x =
-    by_test (too_long text) (λ b. refusal_number x ≡ cond b 9 0 → refusal_number x ≡ first_of ((9, b) ∷ (51, window_out w) ∷ (51, levelled_one_way (text_line text)) ∷ [])) (λ b e. e)
+    by_test (too_long text) (λ b. refusal_number x ≡ cond b 9 0 → refusal_number x ≡ first_of ((9, b) ∷ warning_tests (text_line text) w)) (λ b e. e)
     (λ b e. absurd (not_zero x e))
 
 -- of one that is read
 pub number_read : (text : List ℕ) (w : ℤ) {b : Book} → ◌≡◌ {A = ℕ} 0 (cond (too_long text) 9 0) → b ≡ (text_state (lines text)).book → drift_refusal (state_of b) w ≡ text_refusal text w
 unfolding text_refusal
 number_read text w e p =
-    let later : List (ℕ × Bool) = (51, window_out w) ∷ (51, levelled_one_way (text_line text)) ∷ [] in
+    let later : List (ℕ × Bool) = warning_tests (text_line text) w in
     ap (λ (v : LineState). drift_refusal v w) (line_read text p) ∙ number_kept (text_line text) w (read_kept (lines text))
     ∙ by_test (too_long text) (λ b. ◌≡◌ {A = ℕ} 0 (cond b 9 0) → first_of later ≡ first_of ((9, b) ∷ later)) (λ b k. absurd (omega (arith, k))) (λ b k. refl) e
 
@@ -87,7 +87,7 @@ module _ (text : List ℕ) (w : ℤ) (taken : text_refusal text w ≡ 0) where
   window : window_out w ≡ false
   unfolding text_refusal
   window =
-      by_test (too_long text) (λ a. first_of ((9, a) ∷ (51, window_out w) ∷ (51, levelled_one_way (text_line text)) ∷ []) ≡ 0 → window_out w ≡ false) (λ a e. absurd (omega (arith, e)))
+      by_test (too_long text) (λ a. first_of ((9, a) ∷ warning_tests (text_line text) w) ≡ 0 → window_out w ≡ false) (λ a e. absurd (omega (arith, e)))
       (λ a. by_test (window_out w) (λ b. first_of ((51, b) ∷ (51, levelled_one_way (text_line text)) ∷ []) ≡ 0 → b ≡ false) (λ b e. absurd (omega (arith, e))) (λ b e. refl)) taken
 
   pub text_few : length (text_firsts text w) ≤ 62

@@ -14,7 +14,7 @@ use Rattle.rules.specs.LineState.{LineState, state_of}
 use Rattle.ledger.specs.Plain.{fresh_reading, after, plain_state}
 use Rattle.ledger.specs.Trace.{FreshEnsures, Trace}
 use Rattle.warnings.specs.declared.Drift.{Drift}
-use Rattle.warnings.specs.Drift.{begins, firsts_from, firsts, window_out, levelled_one_way, drift_of, Warns}
+use Rattle.warnings.specs.Drift.{begins, firsts_from, firsts, warning_tests, drift_of, Warns}
 
 -- ---- the numbers
 
@@ -35,7 +35,7 @@ InLineOrder = (apart : Root) (w : ℕ) (ss : List Section) → rising 0 (firsts_
 
 -- what is answered of the standing list; 20 is not among the tests
 pub record WarnsOf (v : LineState) (w : ℤ) (r : Result Drift Refusal) : Type 0 where
-  pub number : number_of r ≡ first_of ((51, window_out w) ∷ (51, levelled_one_way v) ∷ [])
+  pub number : number_of r ≡ first_of (warning_tests v w)
   pub firsts : IfOk r (λ d. d ≡ drift_of (firsts v w))
 
 -- of every book that calls made, refused ones among them

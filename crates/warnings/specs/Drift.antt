@@ -58,7 +58,11 @@ window_out w = not (between (pos 3) w (pos 10))
 abbrev pub levelled_one_way : LineState → Bool
 levelled_one_way v = not (is_fresh v.line.stage) && not (terms_of v.line.opening.class).double
 
--- of a book that is handed in, which is also tested for 20
+-- of a line
+abbrev pub warning_tests : LineState → ℤ → List (ℕ × Bool)
+warning_tests v w = (51, window_out w) ∷ (51, levelled_one_way v) ∷ []
+
+-- of a book that is handed in, which is also tested for 20: behind what the input alone causes, and before what the line does
 abbrev pub drift_tests : LineState → ℤ → List (ℕ × Bool)
 drift_tests v w = (51, window_out w) ∷ (20, broken_in true v) ∷ (51, levelled_one_way v) ∷ []
 

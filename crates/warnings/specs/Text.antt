@@ -10,7 +10,7 @@ use Rattle.rules.specs.LineState.{LineState}
 use Rattle.ledger.specs.Plain.{Reading, fresh_reading, plain_state}
 use Rattle.textbook.specs.Text.{too_long, reading_after}
 use Rattle.fieldbook.specs.Report.{ref_line}
-use Rattle.warnings.specs.Drift.{window_out, levelled_one_way, firsts}
+use Rattle.warnings.specs.Drift.{firsts, warning_tests}
 
 -- ---- a text
 
@@ -23,7 +23,7 @@ abbrev pub text_line : List ℕ → LineState
 text_line text = plain_state (read (lines text))
 
 abbrev pub text_tests : List ℕ → ℤ → List (ℕ × Bool)
-text_tests text w = (9, too_long text) ∷ (51, window_out w) ∷ (51, levelled_one_way (text_line text)) ∷ []
+text_tests text w = (9, too_long text) ∷ warning_tests (text_line text) w
 
 unfoldable pub text_refusal : List ℕ → ℤ → ℕ
 text_refusal text w = first_of (text_tests text w)

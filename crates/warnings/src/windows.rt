@@ -29,7 +29,7 @@ fn is_large(apart: Root, x: &Section) -> bool
     !within(root.a, x.discrepancy, root.b, counted_length(x.distance))
 }
 
-// Each of them, and each on one side of 0. Apart, since in one body the tactics do not join what several `all` answer.
+// Whether each D does. Apart from the tests of the signs, since in one body the tactics do not join what several `all` answer.
 fn all_large(apart: Root, window: &[Section]) -> bool
     requires { apart.a ≤ 625 }
     ensures { result ≡ list_all (is_large apart) window.now }
