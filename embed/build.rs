@@ -9,7 +9,7 @@ fn main() {
         None => Path::new(&package).join("../target/staticlib"),
     };
     println!("cargo:rustc-link-search=native={}", folder.display());
-    let names = ["rootcalls", "adjust", "runner", "fieldbook"];
+    let names = ["rootcalls", "adjust", "runner", "fieldbook", "levelbook"];
     for name in names {
         let library = folder.join(format!("lib{name}.a"));
         println!("cargo:rerun-if-changed={}", library.display());

@@ -21,6 +21,7 @@ extern "C" {
 #define LEVEL_REPORT_ROOM 65536u
 #define LEVEL_CALL_NUMBERS 11u
 #define LEVEL_FIGURES 270u
+#define LEVEL_PROFILE_ROOM 1040u
 
 /* The print unit: how many units of a printed height a millimetre has. */
 #define LEVEL_MILLIMETRES 1
@@ -73,6 +74,22 @@ uint8_t level_adjust(const struct level_leg *legs, size_t count, int64_t start, 
  * of the start and each section, 0 where there is none. Heights are in the print unit, W and corrections in quarters of it, the sum of twice-heights in
  * half mm; after a 10 that was taken each but the heights is in units one tenth as large. Library runner. */
 size_t level_run(const int64_t *calls, size_t count, uint8_t *numbers, size_t answers, int64_t *figures, size_t places);
+
+/* A point of a profile: its distance from the start in half dm, and what was levelled up to it, not adjusted (start height plus running Q), in quarter
+ * mm, with measured constants in fortieths of a mm, whatever the print unit. Both are whole numbers. */
+struct level_pair {
+    double distance;
+    double height;
+};
+
+/* The profile of a text book's line, which is closed: a pair for the start and for each section, in order, 16 bytes each, distance first, lowest byte
+ * first (a `struct level_pair` as it is in memory where the machine has that order), into the beginning of `pairs`, and how many bytes into `*written`.
+ * Refused with 9 if the text is above LEVEL_LONGEST_TEXT bytes, else with 56 if the line is not closed or the buffer is shorter than all pairs;
+ * LEVEL_PROFILE_ROOM is always enough. Then neither `pairs` nor `*written` is touched. Bytes beyond the pairs keep their values. Library levelbook. */
+uint8_t level_profile(const uint8_t *text, size_t text_length, uint8_t *pairs, size_t pairs_length, size_t *written);
+
+/* `to` minus `from`: of neighbours in a profile exactly the section's R and Q. Library levelbook. */
+struct level_pair level_difference(struct level_pair from, struct level_pair to);
 
 /* The whole number nearest to n / d, a tie going to the even one. A d outside 1 to 4 * 10^18 stands for the nearest one inside. Library rootcalls. */
 int64_t level_round_half_even(int64_t n, int64_t d);

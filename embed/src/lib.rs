@@ -31,11 +31,13 @@
 //! ```
 
 mod calls;
+mod profile;
 pub mod raw;
 mod refusal;
 
 pub use calls::{run_calls, Call, Closing, Outcome, Point, PrintUnit, Run, Staff};
-pub use raw::Leg;
+pub use profile::{difference, profile, profile_into, PROFILE_ROOM};
+pub use raw::{Leg, Pair};
 pub use refusal::{meaning, Refusal};
 
 /// The longest text in bytes: 777 lines of 83 columns and a line feed.

@@ -32,11 +32,20 @@ pub enum Refusal {
     Section = 12,
     /// The height list.
     ListTooShort = 13,
+    /// The line, which is not closed, or the buffer of the pairs.
+    Profile = 56,
 }
 
 impl Refusal {
-    const ALL: [Refusal; 6] =
-        [Refusal::Height, Refusal::TextTooLong, Refusal::BufferTooShort, Refusal::Sections, Refusal::Section, Refusal::ListTooShort];
+    const ALL: [Refusal; 7] = [
+        Refusal::Height,
+        Refusal::TextTooLong,
+        Refusal::BufferTooShort,
+        Refusal::Sections,
+        Refusal::Section,
+        Refusal::ListTooShort,
+        Refusal::Profile,
+    ];
 
     /// Document 01's number, of which [`meaning`] has the text.
     ///

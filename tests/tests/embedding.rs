@@ -5,7 +5,7 @@ use std::process::{Command, Output};
 
 use level_tests::examples::{examples, path};
 use level_tests::text::LONGEST_TEXT;
-use levelbook::{meaning, reduce, reduce_into, Refusal, CALL_NUMBERS, FIGURES, REPORT_ROOM};
+use levelbook::{meaning, reduce, reduce_into, Refusal, CALL_NUMBERS, FIGURES, PROFILE_ROOM, REPORT_ROOM};
 
 #[test]
 fn the_examples() {
@@ -40,7 +40,7 @@ fn page() -> Vec<(u8, String)> {
 fn meanings() {
     let table: Vec<(u8, String)> = (0..=255).filter_map(|number| Some((number, meaning(number)?.to_string()))).collect();
     assert_eq!(table, page());
-    assert!((1..=13).chain(20..=36).chain(41..=46).chain([53, 57]).all(|number| meaning(number).is_some()));
+    assert!((1..=13).chain(20..=36).chain(41..=46).chain([53, 56, 57]).all(|number| meaning(number).is_some()));
     let source = read_to_string(path("embed/refusals.def")).expect("the table");
     assert_eq!(source.lines().count(), 1 + table.len());
 }
@@ -56,7 +56,7 @@ fn compiled(name: &str, source: &Path, libraries: &[&str]) -> PathBuf {
     program
 }
 
-/// The header has the same meanings and the same four numbers.
+/// The header has the same meanings and the same numbers.
 #[test]
 fn the_header() {
     let source = Path::new(env!("CARGO_TARGET_TMPDIR")).join("header.c");
@@ -64,7 +64,7 @@ fn the_header() {
 #include <stdio.h>
 int main(void)
 {
-    printf("%u %u %u %u\n", LEVEL_LONGEST_TEXT, LEVEL_REPORT_ROOM, LEVEL_CALL_NUMBERS, LEVEL_FIGURES);
+    printf("%u %u %u %u %u\n", LEVEL_LONGEST_TEXT, LEVEL_REPORT_ROOM, LEVEL_CALL_NUMBERS, LEVEL_FIGURES, LEVEL_PROFILE_ROOM);
     for (unsigned number = 0; number < 256; number++)
         if (level_refusal((uint8_t)number))
             printf("%u %s\n", number, level_refusal((uint8_t)number));
@@ -73,7 +73,7 @@ int main(void)
 "#;
     write(&source, program).expect("a file of the tests");
     let output = Command::new(compiled("header", &source, &[])).output().expect("the program runs");
-    let mut expected = format!("{} {} {CALL_NUMBERS} {FIGURES}\n", levelbook::LONGEST_TEXT, REPORT_ROOM);
+    let mut expected = format!("{} {} {CALL_NUMBERS} {FIGURES} {PROFILE_ROOM}\n", levelbook::LONGEST_TEXT, REPORT_ROOM);
     page().iter().for_each(|(number, meaning)| expected.push_str(&format!("{number} {meaning}\n")));
     assert_eq!(String::from_utf8_lossy(&output.stdout), expected);
 }
@@ -99,6 +99,36 @@ int main(void)
     assert_eq!(output.stdout, b"2 0 99\n");
 }
 
+/// The profile of case A in C: a pair is in memory as it is written, and goes and comes by value.
+#[test]
+fn a_profile_in_c() {
+    let source = Path::new(env!("CARGO_TARGET_TMPDIR")).join("profile.c");
+    let program = r#"#include "levelbook.h"
+#include <stdio.h>
+int main(void)
+{
+    static uint8_t text[LEVEL_LONGEST_TEXT];
+    struct level_pair pairs[LEVEL_PROFILE_ROOM / sizeof(struct level_pair)];
+    size_t written = 7;
+    const size_t length = fread(text, 1, sizeof text, stdin);
+    const uint8_t refused = level_profile(text, length, (uint8_t *)pairs, 47, &written);
+    printf("%u %zu\n", refused, written);
+    const uint8_t taken = level_profile(text, length, (uint8_t *)pairs, sizeof pairs, &written);
+    printf("%u %zu\n", taken, written);
+    for (size_t k = 0; k < written / sizeof pairs[0]; k++) {
+        const struct level_pair step = level_difference(pairs[k ? k - 1 : 0], pairs[k]);
+        printf("%.17g %.17g %.17g %.17g\n", pairs[k].distance, pairs[k].height, step.distance, step.height);
+    }
+    return 0;
+}
+"#;
+    write(&source, program).expect("a file of the tests");
+    let book = File::open(path("examples/case-a.book")).expect("the book");
+    let output = Command::new(compiled("profile", &source, &["levelbook"])).stdin(book).output().expect("the program runs");
+    let expected = "56 7\n0 48\n0 40000 0 0\n2564 42632 2564 2632\n4164 44832 1600 2200\n";
+    assert_eq!(String::from_utf8_lossy(&output.stdout), expected);
+}
+
 /// Builds the package's example with the libraries of a folder.
 fn built_with(folder: &Path) -> Output {
     let mut cargo = Command::new(env!("CARGO"));
@@ -111,7 +141,7 @@ fn built_with(folder: &Path) -> Output {
 fn the_folder_of_the_libraries() {
     let folder = Path::new(env!("CARGO_TARGET_TMPDIR")).join("libraries");
     create_dir_all(folder.join("none")).expect("a folder of the tests");
-    for name in ["rootcalls", "adjust", "runner", "fieldbook"].map(|name| format!("lib{name}.a")) {
+    for name in ["rootcalls", "adjust", "runner", "fieldbook", "levelbook"].map(|name| format!("lib{name}.a")) {
         copy(path("target/staticlib").join(&name), folder.join(&name)).expect("the library");
     }
     let output = built_with(&folder);
