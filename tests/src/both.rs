@@ -4,10 +4,11 @@ use std::sync::LazyLock;
 
 use crate::figures::{figures_of, read, FIGURES};
 use crate::plain::Call;
+use crate::profile::profile_into;
 use crate::report::{reduce_into, SHORTEST_BUFFER};
 use crate::text::LINE;
 use crate::write::{filled, numbers_of};
-use levelbook::raw::level_reduce;
+use levelbook::raw::{level_profile, level_reduce};
 
 /// The answers, and the figures of the book at the end.
 pub fn run(calls: &[Call]) -> (Vec<u8>, Vec<i64>) {
@@ -44,34 +45,48 @@ pub fn words(bytes: &[u8]) -> String {
 /// A length that no call writes.
 const UNWRITTEN: usize = usize::MAX;
 
-/// The proved call on a text: the number of its refusal, 0 where it is taken, and the length that it leaves.
-fn proved(text: &[u8], buffer: &mut [u8]) -> (u8, usize) {
-    let mut length = UNWRITTEN;
-    // SAFETY: as in `levelbook::reduce_into`, which does not show what is left of the length by a refusal.
-    let number = unsafe { level_reduce(text.as_ptr(), text.len(), buffer.as_mut_ptr(), buffer.len(), &mut length) };
-    (number, length)
-}
-
-/// Both calls on the same text over the same dirty buffer: the report, or the number of the refusal.
-pub fn report_in(text: &[u8], places: usize) -> Result<Vec<u8>, u8> {
-    let (mut given, mut expected) = (DIRT[..places].to_vec(), DIRT[..places].to_vec());
-    let answer = proved(text, &mut given);
-    let wanted = reduce_into(text, &mut expected);
+/// A proved call on a text that writes into a list and leaves a length, and the other implementation's, over the same dirty list: what is written, or the number
+/// of the refusal.
+fn written<T: Copy + PartialEq>(
+    text: &[u8],
+    dirt: &[T],
+    proved: impl Fn(&mut [T], &mut usize) -> u8,
+    other: impl Fn(&mut [T]) -> Result<usize, u8>,
+    show: impl Fn(&[T]) -> String,
+) -> Result<Vec<T>, u8> {
+    let (mut given, mut expected, mut length) = (dirt.to_vec(), dirt.to_vec(), UNWRITTEN);
+    let answer = (proved(&mut given, &mut length), length);
+    let wanted = other(&mut expected);
     if answer != wanted.map_or_else(|number| (number, UNWRITTEN), |length| (0, length)) || given != expected {
         let place = given.iter().zip(&expected).position(|(one, other)| one != other);
-        let [given, expected] = [&given, &expected].map(|one| words(&one[..one.len().min(wanted.unwrap_or(0) + LINE)]));
+        let [given, expected] = [&given, &expected].map(|one| show(&one[..one.len().min(wanted.unwrap_or(0) + LINE)]));
         panic!("{answer:?} for {wanted:?}, first difference at {place:?}; text\n{}\ngiven\n{given}\nexpected\n{expected}", words(text));
     }
-    let length = wanted.inspect_err(|_| assert!(given == DIRT[..places], "a refusal touched the buffer"))?;
-    assert!(given[length..] == DIRT[length..places], "bytes beyond the report");
+    let length = wanted.inspect_err(|_| assert!(given == dirt, "a refusal touched the list"))?.min(dirt.len());
+    assert!(given[length..] == dirt[length..], "places beyond what is written");
     given.truncate(length);
-    assert!(has_the_form_of_a_report(&given), "{}", words(&given));
     Ok(given)
+}
+
+/// The report in a buffer of so many bytes.
+pub fn report_in(text: &[u8], places: usize) -> Result<Vec<u8>, u8> {
+    // SAFETY: as in `levelbook::reduce_into`, which does not show what is left of the length by a refusal.
+    let proved = |buffer: &mut [u8], length: &mut usize| unsafe { level_reduce(text.as_ptr(), text.len(), buffer.as_mut_ptr(), buffer.len(), length) };
+    let report = written(text, &DIRT[..places], proved, |buffer| reduce_into(text, buffer), words)?;
+    assert!(has_the_form_of_a_report(&report), "{}", words(&report));
+    Ok(report)
 }
 
 /// The same with the shortest buffer.
 pub fn report(text: &[u8]) -> Result<Vec<u8>, u8> {
     report_in(text, SHORTEST_BUFFER)
+}
+
+/// The pairs of a line for the plotter in a buffer of so many bytes.
+pub fn profile_in(text: &[u8], places: usize) -> Result<Vec<u8>, u8> {
+    // SAFETY: as in `levelbook::profile_into`, which does not show what is left of the length by a refusal.
+    let proved = |buffer: &mut [u8], length: &mut usize| unsafe { level_profile(text.as_ptr(), text.len(), buffer.as_mut_ptr(), buffer.len(), length) };
+    written(text, &DIRT[..places], proved, |buffer| profile_into(text, buffer), |pairs| format!("{pairs:?}"))
 }
 
 /// Whole lines of 83 columns, the title, one end.

@@ -1,9 +1,9 @@
 //! Another implementation of the levelling book, written from documents 01 and 02 alone; the tests compare the proved one with it.
 //!
 //! The other implementation: `fraction`, `constants`, `station`, `collimation`, `rules`, `plain`, `standing`, `closing`, `adjust`, `figures`, and for texts `text`,
-//! `write`, `report`.
+//! `write`, `report`, for the plotter `profile`.
 //! Inputs for comparisons: `random`, `lent`, `examples`, `opening`, `fixed`, for lists of calls `wished`, `angles`, `measured`, `caller`, `at_limits`, `mistakes`, `work`,
-//! `lifted`, `generate`, `mutate`, and for texts `damage`, `largest`. Both implementations on one of them: `both`.
+//! `lifted`, `generate`, `mutate`, and for texts `damage`, `largest`. Both implementations on one of them: `both`. The programs: `programs`.
 
 pub mod adjust;
 pub mod angles;
@@ -26,6 +26,8 @@ pub mod mutate;
 pub mod opening;
 pub mod caller;
 pub mod plain;
+pub mod profile;
+pub mod programs;
 pub mod random;
 pub mod report;
 pub mod rules;

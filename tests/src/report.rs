@@ -11,22 +11,33 @@ const LOWEST_IN_EIGHT: i64 = -9_999_999;
 /// CLO prints a larger T as this one.
 const LARGEST_T: i64 = 99_999_999;
 
-/// The report of a text book, or 9 for a text that is too long.
-pub fn reduce(text: &[u8]) -> Result<Vec<u8>, u8> {
-    let mut reading = Reading::fresh();
-    let mut refusals = Vec::new();
-    let mut closing = None;
+/// What a text book says: the refused lines with their refusals, in order, what the plain reading is left with, and what the closing gave.
+pub struct Read {
+    pub refusals: Vec<(i64, u8)>,
+    pub reading: Reading,
+    pub closing: Option<Closing>,
+}
+
+/// A text book read, or 9 for a text that is too long.
+pub fn read(text: &[u8]) -> Result<Read, u8> {
+    let mut read = Read { refusals: Vec::new(), reading: Reading::fresh(), closing: None };
     for line in text::parse(text)? {
         let answer = match &line.outcome {
             Err(refusal) => Answer::Refused(*refusal),
-            Ok(call) => reading.apply(call),
+            Ok(call) => read.reading.apply(call),
         };
         match answer {
-            Answer::Refused(refusal) => refusals.push((line.number, refusal)),
+            Answer::Refused(refusal) => read.refusals.push((line.number, refusal)),
             Answer::Taken => {}
-            Answer::Closed(given) => closing = Some(given),
+            Answer::Closed(given) => read.closing = Some(given),
         }
     }
+    Ok(read)
+}
+
+/// The report of a text book, or 9 for a text that is too long.
+pub fn reduce(text: &[u8]) -> Result<Vec<u8>, u8> {
+    let Read { refusals, reading, closing } = read(text)?;
     Ok(report(&refusals, reading.sections.len(), closing.as_ref()))
 }
 
@@ -46,10 +57,12 @@ pub fn reduce_into(text: &[u8], buffer: &mut [u8]) -> Result<usize, u8> {
 
 /// What the program prints: the report, or for 9 the single line REF 0 9.
 pub fn printed(text: &[u8]) -> Vec<u8> {
-    match reduce(text) {
-        Ok(report) => report,
-        Err(refusal) => line_of("REF", &[0, i64::from(refusal)]),
-    }
+    reduce(text).unwrap_or_else(refused)
+}
+
+/// What a program prints that refuses its input whole.
+pub fn refused(refusal: u8) -> Vec<u8> {
+    line_of("REF", &[0, i64::from(refusal)])
 }
 
 /// Title, refusals (text line, number), then the closing or OPN with the number
@@ -72,7 +85,8 @@ pub fn report(refusals: &[(i64, u8)], sections: usize, closing: Option<&Closing>
     report
 }
 
-fn line_of(tag: &str, numbers: &[i64]) -> Vec<u8> {
+/// A line whose numbers have eight columns each.
+pub fn line_of(tag: &str, numbers: &[i64]) -> Vec<u8> {
     line(tag, numbers).expect("figures of eight columns")
 }
 

@@ -18,9 +18,7 @@ use level_tests::write::filled;
 const PATIENCE: Duration = Duration::from_secs(20);
 
 fn program() -> PathBuf {
-    let program = path("target/bin/reduce");
-    assert!(program.is_file(), "{} is missing: run `tools/build` first", program.display());
-    program
+    level_tests::programs::program("reduce")
 }
 
 fn start() -> Child {
