@@ -22,6 +22,7 @@ extern "C" {
 #define LEVEL_CALL_NUMBERS 11u
 #define LEVEL_FIGURES 270u
 #define LEVEL_PROFILE_ROOM 1040u
+#define LEVEL_MOST_WARNINGS 62u
 
 /* The print unit: how many units of a printed height a millimetre has. */
 #define LEVEL_MILLIMETRES 1
@@ -90,6 +91,13 @@ uint8_t level_profile(const uint8_t *text, size_t text_length, uint8_t *pairs, s
 
 /* `to` minus `from`: of neighbours in a profile exactly the section's R and Q. Library levelbook. */
 struct level_pair level_difference(struct level_pair from, struct level_pair to);
+
+/* The warnings of drift of a text book's line, open or closed: the numbers, from 1 in line order, of the sections at which a window of `window`
+ * sections begins in which all D have one sign and exceed a fifth of their limit. They go into the first places of `firsts`, as far as there are places
+ * (LEVEL_MOST_WARNINGS is always enough), and how many there are into `*count`. Refused with 9 if the text is above LEVEL_LONGEST_TEXT bytes, else with
+ * 51 for a window outside 3 to 10 or a fourth-order line that is not a spur; then neither `firsts` nor `*count` is touched. Further places keep their
+ * values. Library levelbook. */
+uint8_t level_drift(const uint8_t *text, size_t text_length, int64_t window, size_t *firsts, size_t places, size_t *count);
 
 /* The whole number nearest to n / d, a tie going to the even one. A d outside 1 to 4 * 10^18 stands for the nearest one inside. Library rootcalls. */
 int64_t level_round_half_even(int64_t n, int64_t d);

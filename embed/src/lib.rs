@@ -31,11 +31,13 @@
 //! ```
 
 mod calls;
+mod drift;
 mod profile;
 pub mod raw;
 mod refusal;
 
 pub use calls::{run_calls, Call, Closing, Outcome, Point, PrintUnit, Run, Staff};
+pub use drift::{drift, drift_into, MOST_WARNINGS};
 pub use profile::{difference, profile, profile_into, PROFILE_ROOM};
 pub use raw::{Leg, Pair};
 pub use refusal::{meaning, Refusal};

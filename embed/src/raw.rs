@@ -24,4 +24,5 @@ extern "C" {
     pub fn level_root_within(a: u16, x: i64, b: u16, l: i64) -> bool;
     pub fn level_profile(text: *const u8, text_length: usize, pairs: *mut u8, pairs_length: usize, written: *mut usize) -> u8;
     pub fn level_difference(from: Pair, to: Pair) -> Pair;
+    pub fn level_drift(text: *const u8, text_length: usize, window: i64, firsts: *mut usize, places: usize, count: *mut usize) -> u8;
 }

@@ -32,18 +32,21 @@ pub enum Refusal {
     Section = 12,
     /// The height list.
     ListTooShort = 13,
+    /// The window, or the line, which is levelled one way.
+    DriftWindow = 51,
     /// The line, which is not closed, or the buffer of the pairs.
     Profile = 56,
 }
 
 impl Refusal {
-    const ALL: [Refusal; 7] = [
+    const ALL: [Refusal; 8] = [
         Refusal::Height,
         Refusal::TextTooLong,
         Refusal::BufferTooShort,
         Refusal::Sections,
         Refusal::Section,
         Refusal::ListTooShort,
+        Refusal::DriftWindow,
         Refusal::Profile,
     ];
 
