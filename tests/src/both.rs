@@ -2,13 +2,14 @@
 
 use std::sync::LazyLock;
 
+use crate::drift::drift_into;
 use crate::figures::{figures_of, read, FIGURES};
 use crate::plain::Call;
 use crate::profile::profile_into;
 use crate::report::{reduce_into, SHORTEST_BUFFER};
 use crate::text::LINE;
 use crate::write::{filled, numbers_of};
-use levelbook::raw::{level_profile, level_reduce};
+use levelbook::raw::{level_drift, level_profile, level_reduce};
 
 /// The answers, and the figures of the book at the end.
 pub fn run(calls: &[Call]) -> (Vec<u8>, Vec<i64>) {
@@ -87,6 +88,14 @@ pub fn profile_in(text: &[u8], places: usize) -> Result<Vec<u8>, u8> {
     // SAFETY: as in `levelbook::profile_into`, which does not show what is left of the length by a refusal.
     let proved = |buffer: &mut [u8], length: &mut usize| unsafe { level_profile(text.as_ptr(), text.len(), buffer.as_mut_ptr(), buffer.len(), length) };
     written(text, &DIRT[..places], proved, |buffer| profile_into(text, buffer), |pairs| format!("{pairs:?}"))
+}
+
+/// The warnings of drift, as many as there are places for.
+pub fn drift_in(text: &[u8], window: i64, places: usize) -> Result<Vec<usize>, u8> {
+    // SAFETY: as in `levelbook::drift_into`, which does not show what is left of the count by a refusal.
+    let proved = |firsts: &mut [usize], count: &mut usize| unsafe { level_drift(text.as_ptr(), text.len(), window, firsts.as_mut_ptr(), firsts.len(), count) };
+    let dirt: Vec<usize> = (1_000..1_000 + places).collect();
+    written(text, &dirt, proved, |firsts| drift_into(text, window, firsts), |firsts| format!("{firsts:?}"))
 }
 
 /// Whole lines of 83 columns, the title, one end.

@@ -31,6 +31,20 @@ pub fn run_of(first_k: i64, sight: i64, short: i64, heights: &[i64]) -> Vec<Call
     staffs.zip(sights).zip(heights).map(|((k, sights), &twice)| station(k, sights, twice)).collect()
 }
 
+/// A run of so many stations with this sum of sights; the first station has the whole of this sum of twice-heights.
+pub fn run_with(first_k: i64, stations: i64, sum: i64, twice: i64) -> Vec<Call> {
+    let heights = [vec![twice], vec![0; stations as usize - 1]].concat();
+    run_of(first_k, sum / (2 * stations), -(sum % (2 * stations)), &heights)
+}
+
+/// A section with this R, of two stations each way for each 6,000 of it that are begun, and the sums of twice-heights out and back, so that D is their sum and Q their
+/// difference.
+pub fn section_of(from: i64, r: i64, out: i64, back: i64) -> Vec<Call> {
+    let stations = 2 * ((r + 5_999) / 6_000);
+    let [out, back] = [run_with(FIRST, stations, r / 2, out), run_with(SECOND, stations, r - r / 2, back)];
+    [out, vec![Call::EndRun(from + 1)], back, vec![Call::EndRun(from)]].concat()
+}
+
 /// A section of two stations each way: all sights 625 dm, so that R is 5,000; the twice-heights of the first station out and back, so that D is their sum and
 /// Q their difference.
 pub fn section(from: i64, to: i64, out: i64, back: i64) -> Vec<Call> {

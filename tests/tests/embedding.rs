@@ -5,7 +5,7 @@ use std::process::{Command, Output};
 
 use level_tests::examples::{examples, path};
 use level_tests::text::LONGEST_TEXT;
-use levelbook::{meaning, reduce, reduce_into, Refusal, CALL_NUMBERS, FIGURES, PROFILE_ROOM, REPORT_ROOM};
+use levelbook::{meaning, reduce, reduce_into, Refusal, CALL_NUMBERS, FIGURES, MOST_WARNINGS, PROFILE_ROOM, REPORT_ROOM};
 
 #[test]
 fn the_examples() {
@@ -40,7 +40,7 @@ fn page() -> Vec<(u8, String)> {
 fn meanings() {
     let table: Vec<(u8, String)> = (0..=255).filter_map(|number| Some((number, meaning(number)?.to_string()))).collect();
     assert_eq!(table, page());
-    assert!((1..=13).chain(20..=36).chain(41..=46).chain([53, 56, 57]).all(|number| meaning(number).is_some()));
+    assert!((1..=13).chain(20..=36).chain(41..=46).chain([51, 53, 56, 57]).all(|number| meaning(number).is_some()));
     let source = read_to_string(path("embed/refusals.def")).expect("the table");
     assert_eq!(source.lines().count(), 1 + table.len());
 }
@@ -56,57 +56,47 @@ fn compiled(name: &str, source: &Path, libraries: &[&str]) -> PathBuf {
     program
 }
 
+/// What a program in C prints of a book of examples/.
+fn in_c(name: &str, program: &str, libraries: &[&str], book: &str) -> String {
+    let source = Path::new(env!("CARGO_TARGET_TMPDIR")).join(format!("{name}.c"));
+    write(&source, format!("#include \"levelbook.h\"\n#include <stdio.h>\nint main(void)\n{{\n{program}    return 0;\n}}\n")).expect("a file of the tests");
+    let book = File::open(path(&format!("examples/{book}.book"))).expect("the book");
+    let output = Command::new(compiled(name, &source, libraries)).stdin(book).output().expect("the program runs");
+    String::from_utf8_lossy(&output.stdout).into_owned()
+}
+
 /// The header has the same meanings and the same numbers.
 #[test]
 fn the_header() {
-    let source = Path::new(env!("CARGO_TARGET_TMPDIR")).join("header.c");
-    let program = r#"#include "levelbook.h"
-#include <stdio.h>
-int main(void)
-{
-    printf("%u %u %u %u %u\n", LEVEL_LONGEST_TEXT, LEVEL_REPORT_ROOM, LEVEL_CALL_NUMBERS, LEVEL_FIGURES, LEVEL_PROFILE_ROOM);
+    let program = r#"
+    printf("%u %u %u %u\n", LEVEL_LONGEST_TEXT, LEVEL_REPORT_ROOM, LEVEL_CALL_NUMBERS, LEVEL_FIGURES);
+    printf("%u %u\n", LEVEL_PROFILE_ROOM, LEVEL_MOST_WARNINGS);
     for (unsigned number = 0; number < 256; number++)
         if (level_refusal((uint8_t)number))
             printf("%u %s\n", number, level_refusal((uint8_t)number));
-    return 0;
-}
 "#;
-    write(&source, program).expect("a file of the tests");
-    let output = Command::new(compiled("header", &source, &[])).output().expect("the program runs");
-    let mut expected = format!("{} {} {CALL_NUMBERS} {FIGURES} {PROFILE_ROOM}\n", levelbook::LONGEST_TEXT, REPORT_ROOM);
+    let mut expected = format!("{} {REPORT_ROOM} {CALL_NUMBERS} {FIGURES}\n{PROFILE_ROOM} {MOST_WARNINGS}\n", levelbook::LONGEST_TEXT);
     page().iter().for_each(|(number, meaning)| expected.push_str(&format!("{number} {meaning}\n")));
-    assert_eq!(String::from_utf8_lossy(&output.stdout), expected);
+    assert_eq!(in_c("header", program, &[], "case-a"), expected);
 }
 
 /// A list of entries in C: a call that is taken and a rest, with a place for the first number alone.
 #[test]
 fn a_list_in_c() {
-    let source = Path::new(env!("CARGO_TARGET_TMPDIR")).join("list.c");
-    let program = r#"#include "levelbook.h"
-#include <stdio.h>
-int main(void)
-{
+    let program = r#"
     const int64_t list[LEVEL_CALL_NUMBERS + 1] = {1, 4, 3, 1, 10000, LEVEL_TENTHS};
     uint8_t numbers[2] = {99, 99};
     int64_t figures[LEVEL_FIGURES];
     const size_t entries = level_run(list, LEVEL_CALL_NUMBERS + 1, numbers, 1, figures, LEVEL_FIGURES);
     printf("%zu %u %u\n", entries, numbers[0], numbers[1]);
-    return 0;
-}
 "#;
-    write(&source, program).expect("a file of the tests");
-    let output = Command::new(compiled("list", &source, &["runner"])).output().expect("the program runs");
-    assert_eq!(output.stdout, b"2 0 99\n");
+    assert_eq!(in_c("list", program, &["runner"], "case-a"), "2 0 99\n");
 }
 
 /// The profile of case A in C: a pair is in memory as it is written, and goes and comes by value.
 #[test]
 fn a_profile_in_c() {
-    let source = Path::new(env!("CARGO_TARGET_TMPDIR")).join("profile.c");
-    let program = r#"#include "levelbook.h"
-#include <stdio.h>
-int main(void)
-{
+    let program = r#"
     static uint8_t text[LEVEL_LONGEST_TEXT];
     struct level_pair pairs[LEVEL_PROFILE_ROOM / sizeof(struct level_pair)];
     size_t written = 7;
@@ -119,14 +109,24 @@ int main(void)
         const struct level_pair step = level_difference(pairs[k ? k - 1 : 0], pairs[k]);
         printf("%.17g %.17g %.17g %.17g\n", pairs[k].distance, pairs[k].height, step.distance, step.height);
     }
-    return 0;
-}
 "#;
-    write(&source, program).expect("a file of the tests");
-    let book = File::open(path("examples/case-a.book")).expect("the book");
-    let output = Command::new(compiled("profile", &source, &["levelbook"])).stdin(book).output().expect("the program runs");
     let expected = "56 7\n0 48\n0 40000 0 0\n2564 42632 2564 2632\n4164 44832 1600 2200\n";
-    assert_eq!(String::from_utf8_lossy(&output.stdout), expected);
+    assert_eq!(in_c("profile", program, &["levelbook"], "case-a"), expected);
+}
+
+/// Warnings of drift in C: two of them with a place for one, and a window that is refused.
+#[test]
+fn warnings_in_c() {
+    let program = r#"
+    static uint8_t text[LEVEL_LONGEST_TEXT];
+    size_t firsts[2] = {7, 7}, count = 7;
+    const size_t length = fread(text, 1, sizeof text, stdin);
+    for (int64_t window = 2; window < 4; window++) {
+        const uint8_t number = level_drift(text, length, window, firsts, 1, &count);
+        printf("%u %zu %zu %zu\n", number, count, firsts[0], firsts[1]);
+    }
+"#;
+    assert_eq!(in_c("warnings", program, &["levelbook"], "drift"), "51 7 7 7\n0 2 2 7\n");
 }
 
 /// Builds the package's example with the libraries of a folder.

@@ -2,7 +2,7 @@
 //! book and by the other implementation.
 
 use level_tests::both::{after, figures, report, words};
-use level_tests::fixed::{run_of, FIRST, SECOND};
+use level_tests::fixed::{run_with, section_of as section, FIRST};
 use level_tests::fraction::within;
 use level_tests::generate::book;
 use level_tests::opening::{closing_call, opening};
@@ -11,17 +11,6 @@ use level_tests::random::Random;
 use level_tests::rules::Class;
 use level_tests::station::sum_of_sights;
 use level_tests::write::{filled, text_of};
-
-/// A run of two stations with this sum of sights and this sum of twice-heights.
-fn run(first_k: i64, sum: i64, twice: i64) -> Vec<Call> {
-    run_of(first_k, sum / 4, -(sum % 4), &[twice, 0])
-}
-
-/// A section of two stations each way with this R, and the sums of twice-heights out and back, so that D is their sum and Q their difference.
-fn section(from: i64, r: i64, out: i64, back: i64) -> Vec<Call> {
-    let [out, back] = [run(FIRST, r / 2, out), run(SECOND, r - r / 2, back)];
-    [out, vec![Call::EndRun(from + 1)], back, vec![Call::EndRun(from)]].concat()
-}
 
 /// What the end of a return answers for this R and D.
 fn ended(class: Class, r: i64, d: i64) -> u8 {
@@ -48,7 +37,7 @@ fn d_of_short_sections() {
 fn closures_keep_the_true_length() {
     let short = [opening(Class::Third), section(1, 16, 7, 0)].concat();
     assert_eq!(after(&short, &[10_001, 10_002].map(|height| closing_call(Class::Third, 2, height))), [36, 0]);
-    let fourth = [opening(Class::Fourth), run(FIRST, 8, 700), vec![Call::EndRun(2)]].concat();
+    let fourth = [opening(Class::Fourth), run_with(FIRST, 2, 8, 700), vec![Call::EndRun(2)]].concat();
     assert_eq!(after(&fourth, &[10_349, 10_350].map(|height| closing_call(Class::Fourth, 2, height))), [36, 0]);
 }
 
