@@ -28,6 +28,11 @@ extern "C" {
 #define LEVEL_MILLIMETRES 1
 #define LEVEL_TENTHS 10
 
+/* What is judged of a run that was shot again. */
+#define LEVEL_NEW_RUN 1
+#define LEVEL_MEAN 2
+#define LEVEL_OPPOSITE_RUN 3
+
 /* What a refusal number means, in UTF-8; NULL for a number that there is not. */
 static inline const char *level_refusal(uint8_t number)
 {
@@ -98,6 +103,15 @@ struct level_pair level_difference(struct level_pair from, struct level_pair to)
  * 51 for a window outside 3 to 10 or a fourth-order line that is not a spur; then neither `firsts` nor `*count` is touched. Further places keep their
  * values. Library levelbook. */
 uint8_t level_drift(const uint8_t *text, size_t text_length, int64_t window, size_t *firsts, size_t places, size_t *count);
+
+/* Judges a run that was shot again, `second`, against the old one in the same direction, `first`, both texts of STA lines without a heading, and the
+ * opposite run, whose sums of twice-heights (half mm, in its own direction) and of sights (dm) are g and s. Order 3 is third order, 4 a spur;
+ * instrument 3 DS3, 1 DS1 or DS05. Into `*judgement` goes LEVEL_NEW_RUN where the new run stands, LEVEL_MEAN where the mean of both does,
+ * LEVEL_OPPOSITE_RUN where the opposite run is due. Refused with 3 for another order or instrument, else with 52 where a line of either text is not a
+ * station that is taken, a text has no station or an odd number of them, g is outside +-1,250,000 or s outside 8 to 600,000; then `*judgement` is
+ * untouched. Library levelbook. */
+uint8_t level_judge(const uint8_t *first, size_t first_length, const uint8_t *second, size_t second_length, int64_t order, int64_t instrument, int64_t g,
+                    int64_t s, uint8_t *judgement);
 
 /* The whole number nearest to n / d, a tie going to the even one. A d outside 1 to 4 * 10^18 stands for the nearest one inside. Library rootcalls. */
 int64_t level_round_half_even(int64_t n, int64_t d);

@@ -35,12 +35,14 @@ mod drift;
 mod profile;
 pub mod raw;
 mod refusal;
+mod repeat;
 
 pub use calls::{run_calls, Call, Closing, Outcome, Point, PrintUnit, Run, Staff};
 pub use drift::{drift, drift_into, MOST_WARNINGS};
 pub use profile::{difference, profile, profile_into, PROFILE_ROOM};
 pub use raw::{Leg, Pair};
 pub use refusal::{meaning, Refusal};
+pub use repeat::{judge, standing_lines, Judgement, OppositeRun};
 
 /// The longest text in bytes: 777 lines of 83 columns and a line feed.
 pub const LONGEST_TEXT: usize = 65_268;

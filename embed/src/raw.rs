@@ -25,4 +25,15 @@ extern "C" {
     pub fn level_profile(text: *const u8, text_length: usize, pairs: *mut u8, pairs_length: usize, written: *mut usize) -> u8;
     pub fn level_difference(from: Pair, to: Pair) -> Pair;
     pub fn level_drift(text: *const u8, text_length: usize, window: i64, firsts: *mut usize, places: usize, count: *mut usize) -> u8;
+    pub fn level_judge(
+        first: *const u8,
+        first_length: usize,
+        second: *const u8,
+        second_length: usize,
+        order: i64,
+        instrument: i64,
+        g: i64,
+        s: i64,
+        judgement: *mut u8,
+    ) -> u8;
 }

@@ -20,6 +20,8 @@ pub fn meaning(number: u8) -> Option<&'static str> {
 #[repr(u8)]
 #[non_exhaustive]
 pub enum Refusal {
+    /// The order or the instrument.
+    OrderOrInstrument = 3,
     /// A known height.
     Height = 5,
     /// The text.
@@ -34,12 +36,15 @@ pub enum Refusal {
     ListTooShort = 13,
     /// The window, or the line, which is levelled one way.
     DriftWindow = 51,
+    /// A text of a run shot again, or the figures of the opposite run.
+    RepeatedRun = 52,
     /// The line, which is not closed, or the buffer of the pairs.
     Profile = 56,
 }
 
 impl Refusal {
-    const ALL: [Refusal; 8] = [
+    const ALL: [Refusal; 10] = [
+        Refusal::OrderOrInstrument,
         Refusal::Height,
         Refusal::TextTooLong,
         Refusal::BufferTooShort,
@@ -47,6 +52,7 @@ impl Refusal {
         Refusal::Section,
         Refusal::ListTooShort,
         Refusal::DriftWindow,
+        Refusal::RepeatedRun,
         Refusal::Profile,
     ];
 

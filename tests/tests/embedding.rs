@@ -40,7 +40,7 @@ fn page() -> Vec<(u8, String)> {
 fn meanings() {
     let table: Vec<(u8, String)> = (0..=255).filter_map(|number| Some((number, meaning(number)?.to_string()))).collect();
     assert_eq!(table, page());
-    assert!((1..=13).chain(20..=36).chain(41..=46).chain([51, 53, 56, 57]).all(|number| meaning(number).is_some()));
+    assert!((1..=13).chain(20..=36).chain(41..=46).chain([51, 52, 53, 56, 57]).all(|number| meaning(number).is_some()));
     let source = read_to_string(path("embed/refusals.def")).expect("the table");
     assert_eq!(source.lines().count(), 1 + table.len());
 }
@@ -127,6 +127,26 @@ fn warnings_in_c() {
     }
 "#;
     assert_eq!(in_c("warnings", program, &["levelbook"], "drift"), "51 7 7 7\n0 2 2 7\n");
+}
+
+/// A run shot again in C, two lines of a book's beginning: a judgement, and one that is refused.
+#[test]
+fn a_judgement_in_c() {
+    let program = r#"
+    static uint8_t text[LEVEL_LONGEST_TEXT];
+    const size_t line = 84, length = fread(text, 1, sizeof text, stdin);
+    const uint8_t *old = text + 7 * line, *new_run = text + 11 * line;
+    uint8_t judgement = 7;
+    if (length < 13 * line)
+        return 1;
+    for (int64_t order = 3; order < 6; order++) {
+        const uint8_t number = level_judge(old, 2 * line, new_run, 2 * line, order, 1, order == 4 ? 990 : 982, 3612, &judgement);
+        printf("%u %u\n", number, judgement);
+    }
+    const uint8_t number = level_judge(old, 2 * line - 1, new_run, 2 * line, 3, 1, 982, 3612, &judgement);
+    printf("%u %d\n", number, judgement == LEVEL_NEW_RUN);
+"#;
+    assert_eq!(in_c("judgement", program, &["levelbook"], "return-again"), "0 1\n0 2\n3 2\n52 0\n");
 }
 
 /// Builds the package's example with the libraries of a folder.
