@@ -6,10 +6,12 @@ use crate::drift::drift_into;
 use crate::figures::{figures_of, read, FIGURES};
 use crate::plain::Call;
 use crate::profile::profile_into;
+use crate::repeat::{judge, Given, Judgement};
 use crate::report::{reduce_into, SHORTEST_BUFFER};
 use crate::text::LINE;
 use crate::write::{filled, numbers_of};
-use levelbook::raw::{level_drift, level_profile, level_reduce};
+use levelbook::raw::{level_drift, level_judge, level_profile, level_reduce};
+use levelbook::{standing_lines, OppositeRun};
 
 /// The answers, and the figures of the book at the end.
 pub fn run(calls: &[Call]) -> (Vec<u8>, Vec<i64>) {
@@ -96,6 +98,34 @@ pub fn drift_in(text: &[u8], window: i64, places: usize) -> Result<Vec<usize>, u
     let proved = |firsts: &mut [usize], count: &mut usize| unsafe { level_drift(text.as_ptr(), text.len(), window, firsts.as_mut_ptr(), firsts.len(), count) };
     let dirt: Vec<usize> = (1_000..1_000 + places).collect();
     written(text, &dirt, proved, |firsts| drift_into(text, window, firsts), |firsts| format!("{firsts:?}"))
+}
+
+/// A judgement that no call writes.
+const UNJUDGED: u8 = 77;
+
+/// What is judged of a run shot again, or the number of the refusal. The lines that stand are those of the texts themselves.
+pub fn judged(first: &[u8], second: &[u8], given: Given) -> Result<Judgement, u8> {
+    let Given { order, instrument, g, s } = given;
+    let mut judgement = UNJUDGED;
+    // SAFETY: as in `levelbook::judge`, which does not show what is left of the judgement by a refusal.
+    let number = unsafe { level_judge(first.as_ptr(), first.len(), second.as_ptr(), second.len(), order, instrument, g, s, &mut judgement) };
+    let expected = judge(first, second, given);
+    let wanted = match expected {
+        Ok(Judgement::New) => (0, 1),
+        Ok(Judgement::Mean) => (0, 2),
+        Ok(Judgement::Opposite) => (0, 3),
+        Err(number) => (number, UNJUDGED),
+    };
+    assert_eq!((number, judgement), wanted, "{given:?}; texts\n{}\n\n{}", words(first), words(second));
+    let lines = standing_lines(first, second, order, instrument, OppositeRun { twice_height: g, sights: s });
+    let standing = match expected {
+        Ok(Judgement::New) => Ok(second),
+        Ok(Judgement::Mean) => Ok(first),
+        Ok(Judgement::Opposite) => Ok(&first[..0]),
+        Err(number) => Err(number),
+    };
+    assert_eq!(lines.map(<[u8]>::as_ptr_range).map_err(levelbook::Refusal::number), standing.map(<[u8]>::as_ptr_range));
+    expected
 }
 
 /// Whole lines of 83 columns, the title, one end.

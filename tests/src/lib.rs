@@ -1,7 +1,7 @@
 //! Another implementation of the levelling book, written from documents 01 and 02 alone; the tests compare the proved one with it.
 //!
 //! The other implementation: `fraction`, `constants`, `station`, `collimation`, `rules`, `plain`, `standing`, `closing`, `adjust`, `figures`, and for texts `text`,
-//! `write`, `report`, for the plotter `profile`, for warnings `drift`.
+//! `write`, `report`, for the plotter `profile`, for warnings `drift`, for a run shot again `repeat`.
 //! Inputs for comparisons: `random`, `lent`, `examples`, `opening`, `fixed`, for lists of calls `wished`, `angles`, `measured`, `caller`, `at_limits`, `mistakes`, `work`,
 //! `lifted`, `generate`, `mutate`, and for texts `damage`, `largest`. Both implementations on one of them: `both`. The programs: `programs`.
 
@@ -30,6 +30,7 @@ pub mod plain;
 pub mod profile;
 pub mod programs;
 pub mod random;
+pub mod repeat;
 pub mod report;
 pub mod rules;
 pub mod wished;
