@@ -67,6 +67,7 @@ uint8_t level_adjust(const struct level_leg *legs, size_t count, int64_t start, 
 /* A list of entries on a fresh book, LEVEL_CALL_NUMBERS numbers an entry. An entry's first number is its kind, the others are its call's arguments, and
  * those that the call does not have are not looked at:
  *   1 open: order, instrument, start number and height, print unit     5 drop section
+ *     (1 or 10; 0 is refused with 57)
  *   2 station: K, u, l, m, r of the back staff, then fore              6 close line: number, height
  *   3 end run: number                                                  7 open spur: as 1, order 4 alone
  *   4 drop run                                                         8 close spur: number

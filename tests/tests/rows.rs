@@ -174,6 +174,16 @@ const FIELDS: [(&str, &str); 20] = [
 ];
 
 /// A field is taken where the other implementation reads a number.
+/// A blank field of a book's line is named: what stands behind it would close up into its place.
+#[test]
+fn a_blank_field_of_a_book() {
+    for record in ["LIN       4       3       1              10", "SPR       4       3   10000              10", "SPR       4       3               0       1"] {
+        assert_eq!(refused(&headed(&[record])), "rows: row 2: a field before the last one is blank\n", "{record}");
+    }
+    let blank_unit = "SPR       4       3       1   10000";
+    assert_eq!(book(&headed(&[blank_unit])), headed(&[blank_unit]));
+}
+
 #[test]
 fn the_numbers() {
     for (field, what) in FIELDS {
