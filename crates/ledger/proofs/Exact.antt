@@ -165,7 +165,7 @@ module _ (calls : List Call) where
   line_t : (terms_of left.opening.class).double ≡ true → (figures_of left).summary.accidental ≡ rounded (fractions left)
   line_t e =
       let squared = squared_of left.opening.staffs in
-      ap (λ (b : Bool). cond b (sum (map (accidental squared) standing)) (pos 0)) e ∙ sections_rounded squared standing
+      ap (λ (b : Bool). sum (map (λ (x : Section). cond b (accidental squared x) (pos 0)) standing)) e ∙ sections_rounded squared standing
 
 pub every_verdict : EveryVerdict
 every_verdict calls e = of_fractions (terms_of (left calls).opening.class) (fractions (left calls)) _ _ (line_divided calls) (line_count calls) (line_t calls e)

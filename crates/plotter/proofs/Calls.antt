@@ -25,25 +25,23 @@ use Rattle.records.proofs.Numbered.{not_zero}
 use Rattle.adjust.specs.declared.Section.{Section}
 use Rattle.adjust.proofs.Lists.{Fit, fit_head, fit_tail, fitted_legs}
 use Rattle.adjust.proofs.Sized.{in_range_lem}
-use Rattle.columns.specs.Decimals.{same}
-use Rattle.columns.specs.Lines.{heading}
 use Rattle.columns.specs.Texts.{lines, joined}
 use Rattle.rules.specs.declared.Book.{Book}
 use Rattle.rules.specs.LineState.{LineState, state_of}
 use Rattle.rules.specs.declared.call.Call.TheVariants.{CloseLine as close_line}
 use Rattle.ledger.specs.Plain.{Reading, fresh_reading, after, plain_state, book_of}
-use Rattle.ledger.proofs.Kept.{Kept, fresh_kept, calls_kept, kept_unbroken}
-use Rattle.ledger.proofs.Again.{held, fresh_holds}
-use Rattle.ledger.proofs.Entries.{reading_calls}
+use Rattle.ledger.proofs.Kept.{Kept, calls_kept, kept_unbroken}
+use Rattle.ledger.proofs.Again.{held}
 use Rattle.textbook.specs.declared.text.State.{State}
-use Rattle.textbook.specs.Text.{too_long, entries, reading_after, calls_of}
-use Rattle.textbook.specs.code.State.{text_state, after_heading, unread}
+use Rattle.textbook.specs.Text.{too_long, lines_reading, text_line}
+use Rattle.textbook.specs.code.State.{text_state}
+use Rattle.textbook.proofs.Readings.{lines_kept, lines_book}
 use Rattle.fieldbook.specs.Report.{ref_line}
 use Rattle.fieldbook.proofs.Bytes.{ref_short}
 use Rattle.plotter.specs.declared.Mark.{Mark}
 use Rattle.plotter.specs.Floats.{float_of, float_bytes, Equals}
 use Rattle.plotter.specs.Profile.{next_mark, marks_after, start_mark, pair_of, mark_bytes, profile, unready, profile_tests, profile_refusal, Profiles, buffer_after}
-use Rattle.plotter.specs.Text.{lines_reading, text_line, text_profile, text_refusal, TextProfiles, text_buffer, most_profile, printed_for}
+use Rattle.plotter.specs.Text.{text_profile, text_refusal, TextProfiles, text_buffer, most_profile, printed_for}
 use Rattle.plotter.specs.Claims.{BytesBack, PairEquals, Exactly, no_section, next_section, SoundProfile, EveryAnswer, EveryProfile, EveryText, LowestGiven, PrintedFits}
 use Rattle.plotter.specs.code.Reached.{Reached}
 use Rattle.plotter.proofs.Floats.{whole_exact, difference_exact}
@@ -127,22 +125,6 @@ pub every_profile : EveryProfile
 every_profile calls = let r = after fresh_reading calls in subst SoundProfile (sym (held r refl)) (sound (plain_state r) (calls_kept calls))
 
 -- ---- texts
-
-lines_kept : (ls : List (List ℕ)) → Kept (plain_state (lines_reading ls))
-lines_kept [] = fresh_kept
-lines_kept (l ∷ ls) =
-    by_test (same l heading) (λ b. Kept (plain_state (cond b (reading_after fresh_reading ls) fresh_reading)))
-    (λ t. subst (λ (r : Reading). Kept (plain_state r)) (sym (reading_calls fresh_reading (entries ls))) (calls_kept (calls_of ls)))
-    (λ t. fresh_kept)
-
--- the book of a text holds its reading
-lines_book : (ls : List (List ℕ)) → (text_state ls).book ≡ book_of (lines_reading ls)
-lines_book [] = fresh_holds
-lines_book (l ∷ ls) =
-    by_test (same l heading) (λ b. (text_state_by b).book ≡ book_of (cond b (reading_after fresh_reading ls) fresh_reading)) (λ t. refl) (λ t. fresh_holds)
-  where
-    text_state_by : Bool → State
-    text_state_by b = cond b (after_heading ls) unread
 
 pub every_text : EveryText
 every_text text = sound (text_line text) (lines_kept (lines text))

@@ -19,11 +19,12 @@ use Rattle.records.proofs.Numbered.{not_zero}
 use Rattle.adjust.specs.declared.Section.{Section}
 use Rattle.adjust.specs.Sizes.{highest}
 use Rattle.adjust.specs.Sections.{misfit, any_outside, section_fits}
+use Rattle.adjust.proofs.Kept.{summed_fit}
 use Rattle.adjust.specs.code.Bounds.{Fits}
 use Rattle.adjust.proofs.Lists.{fitted_legs}
 use Rattle.adjust.proofs.Sized.{in_range_lem}
 use Rattle.rules.specs.LineState.{LineState, is_closed, line_broken}
-use Rattle.rules.specs.Rules.{broken_in, figures_tests}
+use Rattle.rules.specs.Rules.{all_broken, broken_in, figures_tests}
 use Rattle.rules.proofs.Unbroken.{Unbroken, unbroken}
 use Rattle.columns.specs.Texts.{joined}
 use Rattle.fieldbook.specs.code.Printed.{Puts}
@@ -47,15 +48,15 @@ module _ (v : LineState) (room : ℕ) {n : ℕ} (e : n ≡ first_of (figures_tes
 
   pub given_broken : n ≡ 20 → 20 ≡ profile_refusal v room
   unfolding profile_refusal
-  given_broken = (by (broken_in true v) (is_closed v.line.stage) e).0
+  given_broken = (by (broken_in (all_broken v) v) (is_closed v.line.stage) e).0
 
   pub given_open : (n ≡ 20 → ⊥) → (n ≡ 0 → ⊥) → 56 ≡ profile_refusal v room
   unfolding profile_refusal
-  given_open = (by (broken_in true v) (is_closed v.line.stage) e).1.0
+  given_open = (by (broken_in (all_broken v) v) (is_closed v.line.stage) e).1.0
 
   by_room : n ≡ 0 → cond short 56 0 ≡ profile_refusal v room
   unfolding profile_refusal
-  by_room = (by (broken_in true v) (is_closed v.line.stage) e).1.1
+  by_room = (by (broken_in (all_broken v) v) (is_closed v.line.stage) e).1.1
 
   pub given_short : n ≡ 0 → room / 16 ≤ length v.sections → 56 ≡ profile_refusal v room
   given_short z h = ap (λ (t : Bool). cond t 56 0) (sym (lt-ltb room (16 * (length v.sections + 1)) (omega arith))) ∙ by_room z
@@ -79,10 +80,10 @@ module _ (v : LineState) (room : ℕ) (e : 0 ≡ profile_refusal v room) where
   passed = failed (profile_tests v room) refl (sym e)
 
   sections_fit : misfit v.sections ≡ false
-  sections_fit = or_l (misfit v.sections) (line_broken v.line (length v.sections)) (passed 20)
+  sections_fit = summed_fit v.line.opening v.line.sums v.sections (or_l (all_broken v) (line_broken v.line (length v.sections)) (passed 20))
 
   line_unbroken : Unbroken v.line (length v.sections)
-  line_unbroken = unbroken v.line (length v.sections) (or_r (misfit v.sections) (line_broken v.line (length v.sections)) (passed 20))
+  line_unbroken = unbroken v.line (length v.sections) (or_r (all_broken v) (line_broken v.line (length v.sections)) (passed 20))
 
   pub fits : Fits v.sections
   fits =

@@ -12,7 +12,8 @@ use Rattle.ledger.specs.Plain.{Reading, fresh_reading, after, plain_state, book_
 use Rattle.plotter.specs.declared.Pair.{Pair}
 use Rattle.plotter.specs.Floats.{Equals, Exact, float_of, float_bytes, difference}
 use Rattle.plotter.specs.Profile.{start_mark, marks_after, pair_of, profile, unready, profile_tests, profile_refusal}
-use Rattle.plotter.specs.Text.{text_line, most_profile, printed_of}
+use Rattle.textbook.specs.Text.{text_line}
+use Rattle.plotter.specs.Text.{most_profile, printed_of}
 
 -- ---- floats
 

@@ -1,5 +1,5 @@
 -- The profile of a line: its points in whole numbers, as pairs of floats and as bytes, and what is refused (document 02, W-213).
-use Rattle.std.specs.Prelude.{◌≡◌, Bool, true, not, cond, ◌||◌, List, [], ◌∷◌, ◌++◌, map, ℕ, ◌+◌, ◌*◌, length, ltb, pos, ◌+ℤ◌, ◌*ℤ◌, IfOk}
+use Rattle.std.specs.Prelude.{◌≡◌, Bool, not, cond, ◌||◌, List, [], ◌∷◌, ◌++◌, map, ℕ, ◌+◌, ◌*◌, length, ltb, pos, ◌+ℤ◌, ◌*ℤ◌, IfOk}
 use Rattle.std.specs.declared.result.Result.{Result}
 use Rattle.numbers.specs.Numbers.{put_at}
 use Rattle.numbers.specs.Tables.{first_of}
@@ -10,7 +10,7 @@ use Rattle.adjust.specs.declared.Section.{Section}
 use Rattle.adjust.specs.Line.{units_of}
 use Rattle.columns.specs.Texts.{joined}
 use Rattle.rules.specs.LineState.{LineState, is_closed}
-use Rattle.rules.specs.Rules.{broken_in}
+use Rattle.rules.specs.Rules.{all_broken, broken_in}
 use Rattle.plotter.specs.declared.Mark.{Mark}
 use Rattle.plotter.specs.declared.Pair.{Pair}
 use Rattle.plotter.specs.Floats.{float_of, float_bytes}
@@ -53,7 +53,7 @@ abbrev pub unready : LineState → ℕ → Bool
 unready v room = not (is_closed v.line.stage) || ltb room (16 * (length v.sections + 1))
 
 abbrev pub profile_tests : LineState → ℕ → List (ℕ × Bool)
-profile_tests v room = (20, broken_in true v) ∷ (56, unready v room) ∷ []
+profile_tests v room = (20, broken_in (all_broken v) v) ∷ (56, unready v room) ∷ []
 
 unfoldable pub profile_refusal : LineState → ℕ → ℕ
 profile_refusal v room = first_of (profile_tests v room)

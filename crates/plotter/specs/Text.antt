@@ -6,25 +6,9 @@ use Rattle.numbers.specs.Numbers.{put_at}
 use Rattle.numbers.specs.Tables.{first_of}
 use Rattle.records.specs.declared.Refusal.{Refusal}
 use Rattle.records.specs.Refusals.{number_of}
-use Rattle.columns.specs.Decimals.{same}
-use Rattle.columns.specs.Lines.{heading}
-use Rattle.columns.specs.Texts.{lines}
-use Rattle.rules.specs.LineState.{LineState}
-use Rattle.ledger.specs.Plain.{Reading, fresh_reading, plain_state}
-use Rattle.textbook.specs.Text.{too_long, reading_after}
+use Rattle.textbook.specs.Text.{too_long, text_line}
 use Rattle.fieldbook.specs.Report.{ref_line}
 use Rattle.plotter.specs.Profile.{unready, profile}
-
--- ---- what is read of a text
-
--- what the lines below the heading leave; without the heading nothing is read
-abbrev pub lines_reading : List (List ℕ) → Reading
-lines_reading [] = fresh_reading
-lines_reading (l ∷ ls) = cond (same l heading) (reading_after fresh_reading ls) fresh_reading
-
--- the line of a text, as it then stands
-abbrev pub text_line : List ℕ → LineState
-text_line text = plain_state (lines_reading (lines text))
 
 abbrev pub text_profile : List ℕ → List ℕ
 text_profile text = profile (text_line text)

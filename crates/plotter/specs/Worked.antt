@@ -4,7 +4,7 @@ use lib.Ieee.{round, of_int, to_bits}
 use Rattle.numbers.specs.Numbers.{put_at}
 use Rattle.columns.specs.Decimals.{blanks, digits_by, digits, decimal, fits_in, pad, same, value_of, has_minus, candidate, field_of}
 use Rattle.columns.specs.Lines.{line_end, line_with, heading}
-use Rattle.columns.specs.Records.{tag_among, all_numbers, numbers_in, numbers_line, record_in, line_in}
+use Rattle.columns.specs.Records.{tag_among, all_numbers, numbers_in, lacks_print_unit, with_print_unit, numbers_line, record_in, line_in}
 use Rattle.columns.specs.Texts.{lines_by, lines, joined}
 use Rattle.roots.specs.Round.{round_even}
 use Rattle.roots.specs.Limit.{is_within}
@@ -36,16 +36,16 @@ pub case_a : text_profile (bytes_of book_a)
     ≡ 0 ∷ 0 ∷ 0 ∷ 0 ∷ 0 ∷ 0 ∷ 0 ∷ 0 ∷ 0 ∷ 0 ∷ 0 ∷ 0 ∷ 0 ∷ 136 ∷ 227 ∷ 64
     ∷ 0 ∷ 0 ∷ 0 ∷ 0 ∷ 0 ∷ 8 ∷ 164 ∷ 64 ∷ 0 ∷ 0 ∷ 0 ∷ 0 ∷ 0 ∷ 209 ∷ 228 ∷ 64
     ∷ 0 ∷ 0 ∷ 0 ∷ 0 ∷ 0 ∷ 68 ∷ 176 ∷ 64 ∷ 0 ∷ 0 ∷ 0 ∷ 0 ∷ 0 ∷ 228 ∷ 229 ∷ 64 ∷ []
-unfolding profile float_bytes to_bits of_int round put_at lines_by lines joined line_in record_in numbers_line tag_among all_numbers numbers_in heading line_with line_end field_of candidate has_minus value_of same pad decimal digits digits_by blanks fits_in round_even is_within within_angle
+unfolding profile float_bytes to_bits of_int round put_at lines_by lines joined line_in record_in with_print_unit lacks_print_unit numbers_line tag_among all_numbers numbers_in heading line_with line_end field_of candidate has_minus value_of same pad decimal digits digits_by blanks fits_in round_even is_within within_angle
 case_a = refl
 
 pub case_measured : text_profile (bytes_of book_measured)
     ≡ 0 ∷ 0 ∷ 0 ∷ 0 ∷ 0 ∷ 0 ∷ 0 ∷ 0 ∷ 0 ∷ 0 ∷ 0 ∷ 0 ∷ 0 ∷ 106 ∷ 24 ∷ 65
     ∷ 0 ∷ 0 ∷ 0 ∷ 0 ∷ 0 ∷ 8 ∷ 164 ∷ 64 ∷ 0 ∷ 0 ∷ 0 ∷ 0 ∷ 64 ∷ 5 ∷ 26 ∷ 65 ∷ []
-unfolding profile float_bytes to_bits of_int round put_at lines_by lines joined line_in record_in numbers_line tag_among all_numbers numbers_in heading line_with line_end field_of candidate has_minus value_of same pad decimal digits digits_by blanks fits_in round_even is_within within_angle
+unfolding profile float_bytes to_bits of_int round put_at lines_by lines joined line_in record_in with_print_unit lacks_print_unit numbers_line tag_among all_numbers numbers_in heading line_with line_end field_of candidate has_minus value_of same pad decimal digits digits_by blanks fits_in round_even is_within within_angle
 case_measured = refl
 
 -- 47 bytes are too few for three pairs; without its last line the line is not closed
 pub case_a_refused : (text_refusal (bytes_of book_a) 47 ≡ 56) × ((text_refusal (bytes_of book_a) 48 ≡ 0) × (text_refusal (take 756 (bytes_of book_a)) 48 ≡ 56))
-unfolding text_refusal put_at lines_by lines joined line_in record_in numbers_line tag_among all_numbers numbers_in heading line_with line_end field_of candidate has_minus value_of same pad decimal digits digits_by blanks fits_in round_even is_within within_angle
+unfolding text_refusal put_at lines_by lines joined line_in record_in with_print_unit lacks_print_unit numbers_line tag_among all_numbers numbers_in heading line_with line_end field_of candidate has_minus value_of same pad decimal digits digits_by blanks fits_in round_even is_within within_angle
 case_a_refused = (refl, (refl, refl))

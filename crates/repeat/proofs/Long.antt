@@ -29,10 +29,10 @@ use Rattle.adjust.specs.declared.terms.Class.{Class}
 use Rattle.columns.specs.Ascii.{bytes_of}
 use Rattle.columns.specs.Decimals.{same}
 use Rattle.columns.specs.Lines.{line_end}
-use Rattle.columns.specs.Records.{letters, tags, tag_among, all_numbers, numbers_in, zeros, record_line, record_in, line_of_tag, line_in}
+use Rattle.columns.specs.Records.{letters, tags, tag_among, all_numbers, numbers_in, zeros, record_line, lacks_print_unit, numbers_line, record_in, line_of_tag, line_in}
 use Rattle.columns.specs.Texts.{lines_by, lines}
 use Rattle.columns.proofs.Tags.{tag_facts}
-use Rattle.columns.proofs.Records.{record_bad, record_shaped, line_refused, line_taken}
+use Rattle.columns.proofs.Records.{record_bad, record_shaped, line_refused, line_taken, print_unit_kept}
 use Rattle.rules.specs.declared.call.Call.{Call}
 use Rattle.rules.specs.Records.{call_of}
 use Rattle.rules.specs.Rules.{instrument_of}
@@ -52,12 +52,20 @@ data Read : Result Record Refusal → Type 0 where
   taken : (zs : List ℤ) → Read (record_line Sta zs)
   bad : (e : Refusal) → Read (Err e)
 
+-- no field of a station's line is a print unit
+no_print_unit : (l : List ℕ) → lacks_print_unit Sta l ≡ false
+unfolding lacks_print_unit
+no_print_unit l = refl
+
+shaped : (l : List ℕ) → same (drop 83 l) (line_end 83) ≡ true → record_in Sta l ≡ numbers_line Sta 10 (drop 3 l)
+shaped l e = record_shaped Sta l e ∙ ap (λ (x : List ℕ). numbers_line Sta 10 (drop 3 x)) (print_unit_kept Sta l (no_print_unit l))
+
 read_station : (l : List ℕ) → Read (record_in Sta l)
 read_station l = by_shape (same (drop 83 l) (line_end 83)) refl
   where
     by_numbers : (b : Bool) → all_numbers 10 (drop 3 l) ≡ b → same (drop 83 l) (line_end 83) ≡ true → Read (record_in Sta l)
-    by_numbers true n e = subst Read (sym (record_shaped Sta l e ∙ line_taken Sta 10 (drop 3 l) n)) (taken (numbers_in 10 (drop 3 l)))
-    by_numbers false n e = subst Read (sym (record_shaped Sta l e ∙ line_refused Sta 10 (drop 3 l) n)) (bad BadField)
+    by_numbers true n e = subst Read (sym (shaped l e ∙ line_taken Sta 10 (drop 3 l) n)) (taken (numbers_in 10 (drop 3 l)))
+    by_numbers false n e = subst Read (sym (shaped l e ∙ line_refused Sta 10 (drop 3 l) n)) (bad BadField)
 
     by_shape : (b : Bool) → same (drop 83 l) (line_end 83) ≡ b → Read (record_in Sta l)
     by_shape true e = by_numbers (all_numbers 10 (drop 3 l)) refl e

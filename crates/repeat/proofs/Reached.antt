@@ -43,7 +43,7 @@ readied k i b =
 
 pub ready_holds : (k : Class) (i : Instrument) (b : Book) → b ≡ fresh_book → readied k i b ≡ book_of (ready k i)
 ready_holds k i b e =
-    ap (readied k i) e ∙ (λ j. record { line = (plain_state (ready k i)).line; sections = sym (holding_none fresh_book.sections) j })
+    ap (readied k i) e ∙ (λ j. record { line = (plain_state (ready k i)).line; sections = sym holding_none j })
 
 module _ {k : Class} {i : Instrument} {t : List ℕ} where
   pub reached_first : (b : Book) (rest : List ℕ) → b ≡ book_of (ready k i) → rest ≡ t → Reached k i t b rest

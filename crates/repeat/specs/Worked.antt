@@ -8,7 +8,7 @@ use Rattle.adjust.specs.Terms.{terms_of}
 use Rattle.columns.specs.Ascii.{bytes_of}
 use Rattle.columns.specs.Decimals.{blanks, digits_by, digits, decimal, pad, same, value_of, has_minus, candidate, field_of}
 use Rattle.columns.specs.Lines.{line_end}
-use Rattle.columns.specs.Records.{tag_among, all_numbers, numbers_in, numbers_line, record_in, line_in}
+use Rattle.columns.specs.Records.{tag_among, all_numbers, numbers_in, lacks_print_unit, with_print_unit, numbers_line, record_in, line_in}
 use Rattle.columns.specs.Texts.{lines_by, lines}
 use Rattle.repeat.specs.declared.Judgement.{Judgement}
 use Rattle.repeat.specs.declared.Judgement.TheVariants.{New, Mean, Opposite}
@@ -105,7 +105,7 @@ pub record Texts : Type 0 where
   pub titled : refused ("LEVEL BOOK                                                                         \n" ++ station1 ++ station2) ≡ 52
 
 pub texts_worked : Texts
-unfolding run_in is_run all_stations judgement judge_refusal lines_by lines line_in record_in numbers_line tag_among all_numbers numbers_in put_at line_end field_of candidate has_minus value_of same pad decimal digits digits_by blanks is_within
+unfolding run_in is_run all_stations judgement judge_refusal lines_by lines line_in record_in with_print_unit lacks_print_unit numbers_line tag_among all_numbers numbers_in put_at line_end field_of candidate has_minus value_of same pad decimal digits digits_by blanks is_within
 texts_worked =
     record {
       stands = refl;

@@ -1,8 +1,12 @@
 -- The text book, read over the plain reading: what a line of it means is told by its record (document 01, 'The text book and the report').
 use Rattle.std.specs.Prelude.{Bool, cond, List, [], ◌∷◌, ◌++◌, map, ℕ, suc, length, eqb, ltb}
+use Rattle.columns.specs.Decimals.{same}
+use Rattle.columns.specs.Lines.{heading}
 use Rattle.columns.specs.Records.{line_in}
+use Rattle.columns.specs.Texts.{lines}
+use Rattle.rules.specs.LineState.{LineState}
 use Rattle.rules.specs.declared.call.Call.{Call}
-use Rattle.ledger.specs.Plain.{Reading}
+use Rattle.ledger.specs.Plain.{Reading, fresh_reading, plain_state}
 use Rattle.ledger.specs.Entries as Entries
 use Rattle.ledger.specs.Entries.{Entry, entry_of, entry_refusals, after_entries}
 
@@ -32,6 +36,17 @@ reading_after r ls = after_entries r (entries ls)
 -- the calls of the lines, to which the claims about lists of calls apply
 abbrev pub calls_of : List (List ℕ) → List Call
 calls_of ls = Entries.calls_of (entries ls)
+
+-- ---- a whole text
+
+-- what its lines leave; without the heading nothing is read
+abbrev pub lines_reading : List (List ℕ) → Reading
+lines_reading [] = fresh_reading
+lines_reading (l ∷ ls) = cond (same l heading) (reading_after fresh_reading ls) fresh_reading
+
+-- the line that it leaves
+abbrev pub text_line : List ℕ → LineState
+text_line text = plain_state (lines_reading (lines text))
 
 -- ---- refusals
 

@@ -15,46 +15,27 @@ use Rattle.numbers.proofs.Tables.{zero_cond, nonzero_cond}
 use Rattle.records.specs.declared.Refusal.{Refusal}
 use Rattle.records.specs.Refusals.{refusal_number}
 use Rattle.records.proofs.Numbered.{not_zero}
-use Rattle.textbook.specs.Text.{too_long}
+use Rattle.textbook.specs.Text.{too_long, text_line}
+use Rattle.textbook.proofs.Readings.{lines_kept, line_read}
 use Rattle.fieldbook.specs.Report.{ref_line}
 use Rattle.numbers.specs.Tables.{first_of}
 use Rattle.numbers.proofs.Tests.{by_test, holds}
-use Rattle.columns.specs.Decimals.{same}
-use Rattle.columns.specs.Lines.{heading}
 use Rattle.columns.specs.Texts.{lines, joined}
 use Rattle.rules.specs.declared.Book.{Book}
 use Rattle.rules.specs.declared.call.Call.TheVariants.{CloseLine as close_line}
 use Rattle.rules.specs.LineState.{LineState, state_of}
-use Rattle.ledger.specs.Plain.{fresh_reading, plain_state, book_of}
-use Rattle.ledger.proofs.Kept.{Kept, fresh_kept, kept_unbroken}
-use Rattle.ledger.proofs.Again.{held, fresh_holds}
-use Rattle.ledger.proofs.Entries.{entries_kept}
-use Rattle.textbook.specs.Text.{entries, reading_after}
-use Rattle.textbook.specs.code.State.{after_heading, unread, text_state}
+use Rattle.ledger.proofs.Kept.{Kept, kept_unbroken}
+use Rattle.textbook.specs.code.State.{text_state}
 use Rattle.adjust.specs.Terms.{terms_by}
 use Rattle.warnings.specs.declared.Drift.{Drift}
 use Rattle.warnings.specs.Drift.{window_out, levelled_one_way, warning_tests, drift_refusal, firsts, drift_of}
-use Rattle.warnings.specs.Text.{read, text_line, text_refusal, text_firsts, list_after, drift_title, drift_line, printed_for, printed_of}
+use Rattle.warnings.specs.Text.{text_refusal, text_firsts, list_after, drift_title, drift_line, printed_for, printed_of}
 use Rattle.warnings.specs.code.Listed.{numbers_small}
 use Rattle.warnings.proofs.Found.{few_firsts, small_firsts}
 use Rattle.warnings.proofs.Warned.{least_window}
 use Rattle.warnings.proofs.Lines.{title_long, warnings_long, below_title}
 use Rattle.fieldbook.proofs.Bytes.{ref_short}
 use lib.Dec.{eqb, eqb→eq}
-
-pub read_kept : (ls : List (List ℕ)) → Kept (plain_state (read ls))
-read_kept [] = fresh_kept
-read_kept (l ∷ ls) =
-    by_test (same l heading) (λ b. Kept (plain_state (cond b (reading_after fresh_reading ls) fresh_reading)))
-    (λ b. entries_kept fresh_reading fresh_kept (entries ls)) (λ b. fresh_kept)
-
-book_read : (ls : List (List ℕ)) → (text_state ls).book ≡ book_of (read ls)
-book_read [] = fresh_holds
-book_read (l ∷ ls) =
-    by_test (same l heading) (λ b. (cond b (after_heading ls) unread).book ≡ book_of (cond b (reading_after fresh_reading ls) fresh_reading)) (λ b. refl) (λ b. fresh_holds)
-
-pub line_read : (text : List ℕ) {b : Book} → b ≡ (text_state (lines text)).book → state_of b ≡ text_line text
-line_read text p = held (read (lines text)) (p ∙ book_read (lines text))
 
 -- the tests without 20
 pub number_kept : (v : LineState) (w : ℤ) → Kept v → drift_refusal v w ≡ first_of (warning_tests v w)
@@ -74,7 +55,7 @@ pub number_read : (text : List ℕ) (w : ℤ) {b : Book} → ◌≡◌ {A = ℕ}
 unfolding text_refusal
 number_read text w e p =
     let later : List (ℕ × Bool) = warning_tests (text_line text) w in
-    ap (λ (v : LineState). drift_refusal v w) (line_read text p) ∙ number_kept (text_line text) w (read_kept (lines text))
+    ap (λ (v : LineState). drift_refusal v w) (line_read text p) ∙ number_kept (text_line text) w (lines_kept (lines text))
     ∙ by_test (too_long text) (λ b. ◌≡◌ {A = ℕ} 0 (cond b 9 0) → first_of later ≡ first_of ((9, b) ∷ later)) (λ b k. absurd (omega (arith, k))) (λ b k. refl) e
 
 pub firsts_read : (text : List ℕ) (w : ℤ) {b : Book} → b ≡ (text_state (lines text)).book → firsts (state_of b) w ≡ text_firsts text w
@@ -94,11 +75,11 @@ module _ (text : List ℕ) (w : ℤ) (taken : text_refusal text w ≡ 0) where
   unfolding text_firsts
   text_few =
       let v = text_line text in
-      omega (arith, few_firsts (terms_by v.line.opening.staffs v.line.opening.class).apart _ (least_window w window) 1 v.sections, (read_kept (lines text)).few)
+      omega (arith, few_firsts (terms_by v.line.opening.staffs v.line.opening.class).apart _ (least_window w window) 1 v.sections, (lines_kept (lines text)).few)
 
   pub text_small : numbers_small (text_firsts text w)
   unfolding text_firsts
-  text_small = let v = text_line text in small_firsts (terms_by v.line.opening.staffs v.line.opening.class).apart _ 1 v.sections (omega (arith, (read_kept (lines text)).few))
+  text_small = let v = text_line text in small_firsts (terms_by v.line.opening.staffs v.line.opening.class).apart _ 1 v.sections (omega (arith, (lines_kept (lines text)).few))
 
   module _ {d : Drift} (held : d ≡ drift_of (text_firsts text w)) where
     pub taken_back : take d.count d.firsts ≡ text_firsts text w

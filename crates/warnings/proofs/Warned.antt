@@ -17,7 +17,7 @@ use Rattle.records.specs.declared.Refusal.TheVariants.{DriftWindow}
 use Rattle.records.specs.Refusals.{refusal_number}
 use Rattle.records.proofs.Numbered.{not_zero}
 use Rattle.rules.specs.LineState.{LineState}
-use Rattle.rules.specs.Rules.{broken_in}
+use Rattle.rules.specs.Rules.{all_broken, broken_in}
 use Rattle.warnings.specs.declared.Drift.{Drift}
 use Rattle.warnings.specs.Drift.{window_out, levelled_one_way, firsts, drift_refusal, drift_of, Warns}
 
@@ -32,22 +32,22 @@ least_window w e =
 
 module _ (v : LineState) (w : ℤ) where
   pub window_warned : window_out w ≡ true → Warns v w (Err DriftWindow)
-  window_warned e = record { number = λ i. cond (sym e i) 51 (cond (broken_in true v) 20 (cond (levelled_one_way v) 51 0)); firsts = tt }
+  window_warned e = record { number = λ i. cond (sym e i) 51 (cond (broken_in (all_broken v) v) 20 (cond (levelled_one_way v) 51 0)); firsts = tt }
 
-  pub broken_warned : (x : Refusal) → window_out w ≡ false → refusal_number x ≡ cond (broken_in true v) 20 0 → Warns v w (Err x)
+  pub broken_warned : (x : Refusal) → window_out w ≡ false → refusal_number x ≡ cond (broken_in (all_broken v) v) 20 0 → Warns v w (Err x)
   broken_warned x e h =
       record {
         number =
-            by_test (broken_in true v) (λ b. refusal_number x ≡ cond b 20 0 → refusal_number x ≡ cond b 20 (cond (levelled_one_way v) 51 0)) (λ b k. k) (λ b k. absurd (not_zero x k)) h
-            ∙ (λ i. cond (sym e i) 51 (cond (broken_in true v) 20 (cond (levelled_one_way v) 51 0)));
+            by_test (broken_in (all_broken v) v) (λ b. refusal_number x ≡ cond b 20 0 → refusal_number x ≡ cond b 20 (cond (levelled_one_way v) 51 0)) (λ b k. k) (λ b k. absurd (not_zero x k)) h
+            ∙ (λ i. cond (sym e i) 51 (cond (broken_in (all_broken v) v) 20 (cond (levelled_one_way v) 51 0)));
         firsts = tt;
       }
 
-  module _ (e : window_out w ≡ false) (h : ◌≡◌ {A = ℕ} 0 (cond (broken_in true v) 20 0)) where
+  module _ (e : window_out w ≡ false) (h : ◌≡◌ {A = ℕ} 0 (cond (broken_in (all_broken v) v) 20 0)) where
     passed : drift_refusal v w ≡ cond (levelled_one_way v) 51 0
     passed =
-        (λ i. cond (e i) 51 (cond (broken_in true v) 20 (cond (levelled_one_way v) 51 0)))
-        ∙ by_test (broken_in true v) (λ b. ◌≡◌ {A = ℕ} 0 (cond b 20 0) → ◌≡◌ {A = ℕ} (cond b 20 (cond (levelled_one_way v) 51 0)) (cond (levelled_one_way v) 51 0)) (λ b k. absurd (omega (arith, k))) (λ b k. refl) h
+        (λ i. cond (e i) 51 (cond (broken_in (all_broken v) v) 20 (cond (levelled_one_way v) 51 0)))
+        ∙ by_test (broken_in (all_broken v) v) (λ b. ◌≡◌ {A = ℕ} 0 (cond b 20 0) → ◌≡◌ {A = ℕ} (cond b 20 (cond (levelled_one_way v) 51 0)) (cond (levelled_one_way v) 51 0)) (λ b k. absurd (omega (arith, k))) (λ b k. refl) h
 
     pub line_warned : levelled_one_way v ≡ true → Warns v w (Err DriftWindow)
     line_warned l = record { number = sym (passed ∙ (λ i. cond (l i) 51 0)); firsts = tt }

@@ -1,5 +1,5 @@
 -- Warnings of drift: where the D of several sections in a row keep one sign and exceed a fifth of the limit (document 02, W-208).
-use Rattle.std.specs.Prelude.{◌≡◌, Bool, true, not, cond, ◌&&◌, ◌||◌, List, [], ◌∷◌, ◌++◌, ℕ, suc, ◌*◌, take, length, leb, ℤ, pos, nat_abs, IfOk}
+use Rattle.std.specs.Prelude.{◌≡◌, Bool, not, cond, ◌&&◌, ◌||◌, List, [], ◌∷◌, ◌++◌, ℕ, suc, ◌*◌, take, length, leb, ℤ, pos, nat_abs, IfOk}
 use Rattle.std.specs.declared.result.Result.{Result}
 use Rattle.std.specs.List.{list_all}
 use Rattle.std.specs.Int.Signed.{lt_z}
@@ -11,7 +11,7 @@ use Rattle.adjust.specs.declared.Section.{Section}
 use Rattle.adjust.specs.declared.terms.Root.{Root}
 use Rattle.adjust.specs.Terms.{terms_of, terms_by}
 use Rattle.rules.specs.LineState.{LineState, is_fresh}
-use Rattle.rules.specs.Rules.{discrepancy_within, broken_in}
+use Rattle.rules.specs.Rules.{discrepancy_within, all_broken, broken_in}
 use Rattle.warnings.specs.declared.Drift.{Drift}
 
 -- ---- a window of sections
@@ -64,7 +64,7 @@ warning_tests v w = (51, window_out w) ∷ (51, levelled_one_way v) ∷ []
 
 -- of a book that is handed in, which is also tested for 20: behind what the input alone causes, and before what the line does
 abbrev pub drift_tests : LineState → ℤ → List (ℕ × Bool)
-drift_tests v w = (51, window_out w) ∷ (20, broken_in true v) ∷ (51, levelled_one_way v) ∷ []
+drift_tests v w = (51, window_out w) ∷ (20, broken_in (all_broken v) v) ∷ (51, levelled_one_way v) ∷ []
 
 abbrev pub drift_refusal : LineState → ℤ → ℕ
 drift_refusal v w = first_of (drift_tests v w)

@@ -4,23 +4,13 @@ use Rattle.std.specs.declared.option.Option.{Option}
 use Rattle.numbers.specs.Numbers.{written}
 use Rattle.numbers.specs.Tables.{first_of}
 use Rattle.columns.specs.Decimals.{same}
-use Rattle.columns.specs.Lines.{tag_line, heading}
-use Rattle.columns.specs.Texts.{lines, joined}
-use Rattle.rules.specs.LineState.{LineState}
-use Rattle.ledger.specs.Plain.{Reading, fresh_reading, plain_state}
-use Rattle.textbook.specs.Text.{too_long, reading_after}
+use Rattle.columns.specs.Lines.{tag_line}
+use Rattle.columns.specs.Texts.{joined}
+use Rattle.textbook.specs.Text.{too_long, text_line}
 use Rattle.fieldbook.specs.Report.{ref_line}
 use Rattle.warnings.specs.Drift.{firsts, warning_tests}
 
 -- ---- a text
-
--- what the lines of a text leave of the plain reading: nothing is read without the heading
-abbrev pub read : List (List ℕ) → Reading
-read [] = fresh_reading
-read (l ∷ ls) = cond (same l heading) (reading_after fresh_reading ls) fresh_reading
-
-abbrev pub text_line : List ℕ → LineState
-text_line text = plain_state (read (lines text))
 
 abbrev pub text_tests : List ℕ → ℤ → List (ℕ × Bool)
 text_tests text w = (9, too_long text) ∷ warning_tests (text_line text) w

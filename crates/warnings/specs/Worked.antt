@@ -1,5 +1,6 @@
 -- Warnings on both sides of each limit, computed by the rules.
 use Rattle.std.specs.Prelude.{◌≡◌, refl, Bool, true, false, List, [], ◌∷◌, map, replicate, ℕ, ℤ, pos, neg_ℤ}
+use Rattle.roots.specs.Round.{round_even}
 use Rattle.roots.specs.Limit.{is_within}
 use Rattle.station.specs.declared.Staffs.{Staffs}
 use Rattle.station.specs.declared.Staffs.TheVariants.{Nominal, Measured}
@@ -9,7 +10,8 @@ use Rattle.adjust.specs.declared.terms.Class.TheVariants.{Third, Fourth, Spur}
 use Rattle.adjust.specs.declared.Opening.{Opening}
 use Rattle.adjust.specs.Terms.{terms_by}
 use Rattle.rules.specs.LineState.{LineState, line_broken}
-use Rattle.rules.specs.Rules.{opening_of, touched, begun}
+use Rattle.adjust.specs.Kept.{sums_of}
+use Rattle.rules.specs.Rules.{opening_of, touched, begun, with_sums}
 use Rattle.ledger.specs.Plain.{fresh_reading, plain_state}
 use Rattle.warnings.specs.Drift.{fifth, is_large, firsts, drift_refusal}
 
@@ -17,11 +19,11 @@ abbrev section : ℕ → ℤ → Section
 section r d = record { number = pos 0; height = pos 0; distance = pos r; discrepancy = d }
 
 abbrev opened : Class → Opening
-opened k = touched (opening_of k (pos 3) (pos 1) (pos 10000))
+opened k = touched (opening_of k (pos 3) (pos 1) (pos 10000) (pos 1))
 
 -- an open line, on which calls were taken, of sections with these D, each 2 km long
 abbrev line : Opening → List ℤ → LineState
-line o ds = record { line = begun o; sections = map (section 40000) ds }
+line o ds = let ss : List Section = map (section 40000) ds in record { line = with_sums (begun o) (sums_of o ss); sections = ss }
 
 abbrev large : Staffs → Class → ℕ → ℤ → Bool
 large c k r d = is_large (terms_by c k).apart (section r d)
@@ -63,7 +65,7 @@ pub record DriftWorked : Type 0 where
   pub fresh_none : firsts (plain_state fresh_reading) (pos 3) ≡ []
 
 pub drift_worked : DriftWorked
-unfolding is_within line_broken
+unfolding round_even is_within line_broken
 drift_worked =
     record {
       line_root = refl;
