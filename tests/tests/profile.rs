@@ -79,7 +79,7 @@ fn raw_heights() {
 /// A section that was lifted or dropped has no pair.
 #[test]
 fn the_standing_sections() {
-    let rest = [section(2, 7, 100, 0), vec![Call::LiftSection], section(2, 3, -5, 0), vec![closing_call(Class::Third, 3, 10_000)]];
+    let rest = [section(2, 7, 100, -100), vec![Call::LiftSection], section(2, 3, -5, 0), vec![closing_call(Class::Third, 3, 10_000)]];
     let calls = [opening_of(Class::Third, usual(3)), section(1, 2, 3, 0), rest.concat()].concat();
     assert_eq!(points(&text_of(&calls)), [[0, 40_000], [5_000, 40_003], [10_000, 39_998]]);
 }
