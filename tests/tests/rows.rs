@@ -173,7 +173,6 @@ const FIELDS: [(&str, &str); 20] = [
     ("\u{2212}5", "not a number"),
 ];
 
-/// A field is taken where the other implementation reads a number.
 /// A blank field of a book's line is named: what stands behind it would close up into its place.
 #[test]
 fn a_blank_field_of_a_book() {
@@ -184,6 +183,7 @@ fn a_blank_field_of_a_book() {
     assert_eq!(book(&headed(&[blank_unit])), headed(&[blank_unit]));
 }
 
+/// A field is taken where the other implementation reads a number.
 #[test]
 fn the_numbers() {
     for (field, what) in FIELDS {
