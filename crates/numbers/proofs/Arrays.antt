@@ -72,6 +72,15 @@ module _ {A : Type 0} where
   pub put_all : (d : List A) (at : ℕ) {rest whole : List A} → rest ≡ [] → put_at d at rest ≡ whole → d ≡ whole
   put_all d at e l = sym (put_none d at) ∙ ap (put_at d at) (sym e) ∙ l
 
+  -- a turn of a loop that copies s
+  pub put_next : (d : List A) (at : ℕ) (s : List A) (i : ℕ) (z : A) → at + i < length d → i < length s
+      → put_at (set d (at + i) (get_or s i z)) (at + (i + 1)) (drop (i + 1) s) ≡ put_at d (at + i) (drop i s)
+  put_next d at s i z h k =
+      let further : at + (i + 1) ≡ at + i + 1 = omega arith in
+      ap (λ (m : ℕ). put_at (set d (at + i) (get_or s i z)) m (drop (i + 1) s)) further
+      ∙ put_cons d (at + i) (get_or s i z) (drop (i + 1) s) h
+      ∙ ap (put_at d (at + i)) (sym (drop_next s i z k))
+
   -- ---- as far as there are places
 
   pub written_fits : (xs ys : List A) → length xs ≤ length ys → written xs ys ≡ over xs ys
