@@ -39,7 +39,7 @@ use Rattle.rules.specs.code.Closed.{closing_on}
 use Rattle.rules.specs.code.Opened.{class_named, spur_named, instrument_named, named_refusal}
 use Rattle.numbers.proofs.Tests.{no_true, or_l, not-false}
 use Rattle.rules.proofs.Tables.{tables, book_fails, line_unbroken}
-use Rattle.rules.proofs.Opened.{line_class, instrument, line_refusal, spur_refusal}
+use Rattle.rules.proofs.Opened.{line_class, instrument, line_refusal, spur_refusal, stored_five}
 use Rattle.rules.proofs.Unbroken.{Unbroken, unbroken, small_runs}
 use Rattle.rules.proofs.Finished.{finished_fits}
 use Rattle.changes.specs.declared.Change.{Change}
@@ -128,11 +128,6 @@ module _ (b : Book) (number height prints : ℤ) where
   opens_spur o k r h =
       opens (open_spur o k number height prints) (eq_z o (pos 4)) (eq_z k (pos 1) || eq_z k (pos 3)) Spur (instrument_of k) r
       (spur_refusal (state_of b) number height prints o k) refl refl (instrument k) h
-
--- a call of five numbers that fit, as the machine reads them back
-pub stored_five : (call : ℤ → ℤ → ℤ → ℤ → ℤ → Call) {o k n h p : ℤ} → SFits w64 o → SFits w64 k → SFits w64 n → SFits w64 h → SFits w64 p
-    → call (stored o) (stored k) (stored n) (stored h) (stored p) ≡ call o k n h p
-stored_five call o k n h p = λ i. call (stored_id o i) (stored_id k i) (stored_id n i) (stored_id h i) (stored_id p i)
 
 -- either of these, which is c, by its law above
 pub opens_as : (b : Book) (call : ℤ → ℤ → ℤ → ℤ → ℤ → Call) (named : ℤ → Option Class)

@@ -4,7 +4,8 @@ ghost use Rattle.numbers.specs.Tables.{first_of};
 ghost use Rattle.records.specs.Refusals.{number_of};
 ghost use Rattle.adjust.specs.Prints.{print_unit_of};
 ghost use Rattle.rules.specs.LineState.{state_of};
-ghost use Rattle.rules.specs.Rules.{opening_with};
+ghost use Rattle.rules.specs.declared.call.Call.TheVariants.{OpenLine as open_line, OpenSpur as open_spur};
+ghost use Rattle.rules.specs.Rules.{opening_with, book_refusal};
 ghost use Rattle.rules.specs.code.Opened.{class_named, spur_named, instrument_named, fresh_tests, start_refusal, named_refusal};
 
 use super::refusals::check_number;
@@ -109,4 +110,46 @@ pub fn check_open(
     let instrument = instrument.ok_or(Refusal::OrderOrInstrument)?;
     let print_unit = check_start(b, number, height, prints)?;
     Ok(opening_with(class, instrument, number, height, print_unit))
+}
+
+// Of opening a line, by the call's numbers: the rules' own number.
+pub fn check_open_line(
+    b: &Book,
+    order: i64,
+    instrument: i64,
+    number: i64,
+    height: i64,
+    prints: i64,
+) -> Result<Opening, Refusal>
+    ensures { number_of result ≡ book_refusal (state_of b.now) (open_line order instrument number height prints) }
+{
+    check_open(
+        b,
+        class_named(order),
+        instrument_named(instrument),
+        number,
+        height,
+        prints,
+    )
+}
+
+// And of opening a spur.
+pub fn check_open_spur(
+    b: &Book,
+    order: i64,
+    instrument: i64,
+    number: i64,
+    height: i64,
+    prints: i64,
+) -> Result<Opening, Refusal>
+    ensures { number_of result ≡ book_refusal (state_of b.now) (open_spur order instrument number height prints) }
+{
+    check_open(
+        b,
+        spur_named(order),
+        instrument_named(instrument),
+        number,
+        height,
+        prints,
+    )
 }

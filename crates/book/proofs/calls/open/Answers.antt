@@ -2,7 +2,7 @@
 use mathlib.Core.Path.{subst}
 use Rattle.rules.specs.declared.call.Call.{Call}
 use Rattle.rules.specs.declared.call.Call.TheVariants.{OpenLine as open_line}
-use Rattle.changes.proofs.Joined.{stored_five}
+use Rattle.rules.proofs.Opened.{stored_five}
 use Rattle.book.specs.Calls.{Answers}
 use Rattle.book.proofs.calls.open.Goals as goal
 
