@@ -3,7 +3,7 @@ use mathlib.Core.Path.{◌≡◌, refl, sym, ap, ◌∙◌}
 use mathlib.Core.List.{List, [], ◌∷◌, ◌++◌, append_assoc}
 use Prim.Native.Nat.{ℕ, ◌+◌, ◌-◌, ◌≤◌, ◌<◌}
 use native.Mathlib.Omega.{arith}
-use lib.ListN.{length, set, take, drop, replicate, length-append, length-take, length-replicate, take-append-drop}
+use lib.ListN.{length, get_or, set, take, drop, replicate, length-append, length-take, length-replicate, take-append-drop}
 use lib.Seq.{take-append_seam, set-append_seam, drop_at}
 use Rattle.std.proofs.lemmas.List.{replicate_more, drop-replicate, replicate-append-replicate}
 use Rattle.numbers.specs.Numbers.{over, last_of, but_last, filled}
@@ -43,6 +43,15 @@ unfolding holding
 sections_holding s ss =
     let e : length ss ≤ length (over ss (cleared s)) = omega (arith, length-append ss (drop (length ss) (cleared s))) in
     filled_short (over ss (cleared s)) (length ss) e ∙ take-append_seam ss (drop (length ss) (cleared s))
+
+-- a section of the list is in the place that it has there
+at_seam : (ps : List Section) (x : Section) (xs rest : List Section) → get_or ((ps ++ (x ∷ xs)) ++ rest) (length ps) no_section ≡ x
+at_seam [] x xs rest = refl
+at_seam (p ∷ ps) x xs rest = at_seam ps x xs rest
+
+pub section_at_lem : (s : Sections) (ps : List Section) (x : Section) (xs : List Section) → get_or (holding s (ps ++ (x ∷ xs))).places (length ps) no_section ≡ x
+unfolding holding
+section_at_lem s ps x xs = at_seam ps x xs (drop (length (ps ++ (x ∷ xs))) (cleared s))
 
 -- a list no shorter than what was held covers it
 covers : (s : Sections) (ss : List Section) → s.count ≤ length ss → over ss (cleared s) ≡ over ss s.places

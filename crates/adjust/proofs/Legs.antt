@@ -8,13 +8,12 @@ use lib.IntN.{ℤ}
 use Rattle.std.proofs.lemmas.Int.{to_z-of_z}
 use Rattle.numbers.specs.Numbers.{filled}
 use Rattle.numbers.proofs.Filled.{filled_next, filled_take}
-use Rattle.numbers.proofs.Tables.{nonzero_cond}
 use Rattle.adjust.specs.declared.Section.{Section}
 use Rattle.adjust.specs.declared.entry.Leg.{Leg}
 use Rattle.adjust.specs.Sections.{no_section}
 use Rattle.adjust.specs.Call.{adjust_refusal, heights_after}
 use Rattle.adjust.specs.Legs.{leg_section, leg_sections}
-use Rattle.adjust.proofs.Refused.{too_many}
+use Rattle.adjust.proofs.Refused.{too_many, untouched}
 
 module _ (xs : List Leg) where
   long : length (leg_sections xs) ≡ length xs
@@ -33,7 +32,6 @@ module _ (xs : List Leg) where
     legs_many places = too_many start end prints (leg_sections xs) places (omega (arith, long))
 
     pub legs_untouched : (hs : List ℤ) → heights_after start end prints (leg_sections xs) hs ≡ hs
-    unfolding heights_after
-    legs_untouched hs = nonzero_cond (adjust_refusal start end prints (leg_sections xs) (length hs)) _ hs (λ e. omega (arith, legs_many (length hs), e))
+    legs_untouched hs = untouched start end prints (leg_sections xs) hs (omega (arith, long))
 
 pub ruleset legs = (legs_back, legs_many, legs_untouched, to_z-of_z)

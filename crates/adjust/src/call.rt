@@ -3,12 +3,13 @@ ghost use Rattle.std.specs.Prelude.{◌≡◌, map, ◌≤◌, length};
 ghost use Rattle.numbers.specs.Numbers.{over};
 ghost use Rattle.records.specs.Refusals.{number_of};
 ghost use Rattle.adjust.specs.declared.Point.{Point};
+ghost use Rattle.adjust.specs.Sections.{sections_of};
 ghost use Rattle.adjust.specs.Call.{adjust_refusal, heights_after};
 
 use super::prints::print_unit_named;
 use super::ranges::any_out_of_range;
 use super::sums::totals_between;
-use super::{Frame, Point, QUARTERS, Section, height_in_range};
+use super::{Frame, Point, QUARTERS, Section, Sections, height_in_range};
 use records::Refusal;
 
 // The refusal of the call for a height list of so many places.
@@ -67,4 +68,24 @@ pub fn adjust(
     let points = Frame::new(QUARTERS, prints, start, t).points(0, sections);
     put_heights(&points[1..=sections.len()], heights);
     Ok(())
+}
+
+impl Sections {
+    // The call over sections in an array. More than there are places are refused, and not cut to what `listed` gives.
+    #[tactic(auto, using(crate::proofs::Arrays::arrays))]
+    pub fn adjust(
+        &self,
+        start: i64,
+        end: i64,
+        prints: i64,
+        heights: &mut [i64],
+    ) -> Result<(), Refusal>
+        ensures number { number_of result ≡ adjust_refusal start end prints (sections_of self.now) (length heights.old) }
+        ensures heights { heights.new ≡ heights_after start end prints (sections_of self.now) heights.old }
+    {
+        if 64 < self.count {
+            return Err(Refusal::SectionCount);
+        }
+        adjust(start, end, prints, self.listed(), heights)
+    }
 }

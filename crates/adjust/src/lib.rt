@@ -1,10 +1,11 @@
 // Closing figures over the sections of a line, and the adjustment call.
 #![tactic(auto)]
 
-ghost use Rattle.std.specs.Prelude.{◌≡◌, ◌≤◌, take};
+ghost use Rattle.std.specs.Prelude.{◌≡◌, ◌≤◌, take, []};
+ghost use Rattle.numbers.specs.Numbers.{filled};
 ghost use Rattle.adjust.specs.Sections.{sections_of, height_in_range};
 ghost use Rattle.adjust.specs.Kept.{sums_of, unsummed};
-ghost use Rattle.adjust.specs.Frames.{figures_fit, line_totals, adjusted_of, line_figures};
+ghost use Rattle.adjust.specs.Frames.{no_point, figures_fit, line_totals, adjusted_of, line_figures};
 ghost use Rattle.adjust.specs.Terms.{terms_by};
 ghost use Rattle.adjust.specs.Line.{units_of, closing, verdict_number};
 ghost use Rattle.adjust.specs.code.Bounds.{Between};
@@ -100,6 +101,17 @@ impl Sections {
     {
         64 < self.count || keeping::unsummed(opening, sums, self.listed())
     }
+
+    // What closing the line gives, as `adjusted_line` says it of a list; none of more sections than there are places.
+    #[tactic(auto, using(crate::proofs::Arrays::arrays))]
+    pub fn adjusted(&self, opening: &Opening, end: i64, kept: &SectionSums) -> Option<LineFigures>
+        ensures { result ≡ line_figures opening.now end kept.now (sections_of self.now) }
+    {
+        if 64 < self.count {
+            return None;
+        }
+        adjusted_line(opening, end, kept, self.listed())
+    }
 }
 
 // A benchmark of the closed line: its distance from the start in half dm, the correction of the section before it in quarter mm, its height in mm. The last two are in
@@ -110,6 +122,13 @@ pub struct Point {
     pub distance: i64,
     pub correction: i64,
     pub height: i64,
+}
+
+// No points: zeros in every place.
+pub fn no_points() -> [Point; 65]
+    ensures { result ≡ filled no_point 65 [] }
+{
+    [Point::default(); 65]
 }
 
 // What is said of T: nothing below 20 sections and where they are levelled one way, otherwise whether it is within its limit.

@@ -4,7 +4,7 @@ ghost use Rattle.std.proofs.lemmas.List.Edits.{sets};
 ghost use Rattle.numbers.specs.Numbers.{written};
 ghost use Rattle.runner.specs.Figures.{told, head_figures, point_figures, book_figures};
 
-use adjust::{LineFigures, Point, Summary};
+use adjust::{LineFigures, Point, Summary, no_points};
 use book::calls;
 use rules::{Book, Run};
 
@@ -23,7 +23,7 @@ fn told(b: &Book) -> LineFigures
 {
     calls::figures_of(*b).unwrap_or(LineFigures {
         summary: Summary::default(),
-        points: [Point::default(); 65],
+        points: no_points(),
     })
 }
 

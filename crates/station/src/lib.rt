@@ -2,7 +2,7 @@
 // black middle and red middle in mm; kb and kf are the constants of the back and the fore staff.
 #![tactic(auto)]
 
-ghost use Rattle.std.specs.Prelude.{◌≡◌, true, ◌&&◌, ◌+◌, ◌≤◌, leb, nat_abs, ◌+ℤ◌, ◌-ℤ◌, IfOk};
+ghost use Rattle.std.specs.Prelude.{◌≡◌, true, cond, ◌&&◌, ◌+◌, ◌≤◌, leb, nat_abs, ◌+ℤ◌, ◌-ℤ◌, IfOk};
 ghost use Rattle.numbers.specs.Numbers.{within};
 ghost use Rattle.numbers.specs.Tables.{first_of};
 ghost use Rattle.records.specs.Refusals.{number_of};
@@ -72,6 +72,13 @@ pub struct Figures {
     pub fore: Sighting,
     pub difference: i64,
     pub height: i64,
+}
+
+// code where t holds, rest otherwise: for callers that have refusals by the documents' numbers.
+pub fn pick(t: bool, code: u8, rest: u8) -> u8
+    ensures { result ≡ cond t code rest }
+{
+    if t { code } else { rest }
 }
 
 // The parts of a millimetre in which the constants are given: 1 or 10.
