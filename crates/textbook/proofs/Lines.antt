@@ -45,12 +45,15 @@ heading_long : length heading ≡ 84
 unfolding heading line_with line_end blanks
 heading_long = refl
 
+-- without it, whatever the first line is: also one that is shorter than a line, and none
+pub unheaded : (t : List ℕ) → same (take 84 t) heading ≡ false → unread ≡ text_state (lines t)
+unheaded [] e = ap text_state (sym (lines_end [] 0 (omega arith)))
+unheaded (b ∷ t) e = sym (ap text_state (lines_next (b ∷ t) 0 (omega arith)) ∙ (λ i. cond (e i) (after_heading (lines (drop 84 (b ∷ t)))) unread))
+
 -- a text that is shorter than a line
 pub no_heading : (t : List ℕ) → length t < 84 → unread ≡ text_state (lines t)
-no_heading [] h = ap text_state (sym (lines_end [] 0 (omega arith)))
-no_heading (b ∷ t) h =
-    let short : length (take 84 (b ∷ t)) ≢ length heading = omega (arith, heading_long, length-take 84 (b ∷ t)) in
-    sym (ap text_state (lines_next (b ∷ t) 0 (omega arith)) ∙ (λ i. cond (same_lengths (take 84 (b ∷ t)) heading short i) (after_heading (lines (drop 84 (b ∷ t)))) unread))
+no_heading t h =
+    let short : length (take 84 t) ≢ length heading = omega (arith, heading_long, length-take 84 t) in unheaded t (same_lengths (take 84 t) heading short)
 
 -- ---- the refusals among the numbers
 
